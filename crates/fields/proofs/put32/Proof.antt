@@ -1,0 +1,15 @@
+-- `fields::put32` meets its contract: the stores are the bytes of the definition, one after the other.
+use native.Mathlib.Omega.{arith}
+use lib.ListN.{length-set}
+use native.Mathlib.Numerals.{towards-suc}
+use borrow.Author.Needs.{needs}
+use Rattle.fields.specs.BigEndian.{bytes}
+use Rattle.fields.proofs.put32.Statement.{statement}
+use Rattle.fields.proofs.put32.Tie as tie
+
+returns : tie.Need-returns
+unfolding bytes
+returns c = simp towards-suc
+
+pub put32-spec : {M : Type 1} → statement M
+put32-spec = tie.close (tie.spec (λ c. search needs) (λ c. search needs) (λ c. search needs) (λ c. search needs) (λ c. simp length-set (omega arith)) (λ c. search needs) (λ c. search needs) (λ c. simp length-set (omega arith)) (λ c. search needs) (λ c. search needs) (λ c. simp length-set (omega arith)) (λ c. simp length-set) returns)

@@ -1,0 +1,81 @@
+-- Judgements: the first fault wins. Document 01, 'Numbers given back'.
+use Prim.Native.Nat.{ℕ, zero, suc, _+_, _-_, _<_, _≤_}
+use mathlib.Core.Path.{_≡_, refl, sym, ap, _∙_}
+use mathlib.Core.Bool.{Bool, true, false}
+use native.Mathlib.Omega.{arith}
+use native.Mathlib.Nat.{add-zero, add-suc}
+use native.Mathlib.Numerals.{add-one}
+use Rattle.verdict.specs.declared.Refusal.{Refusal}
+use Rattle.verdict.specs.declared.Verdict.{Verdict}
+use Rattle.verdict.specs.declared.Verdict.the-variants.{Fine, Refused}
+
+infixr 20 _then_
+infix 30 _gives_at_
+-- number n at place p
+unfoldable pub fault : ℕ → ℕ → Refusal
+fault n p = record { number = n; place = p }
+
+abbrev pub refuse : ℕ → ℕ → Verdict
+refuse n p = Refused (fault n p)
+
+-- number and place as document 01 gives them back; 0 and 0 where nothing is wrong
+abbrev pub numberOf : Verdict → ℕ
+numberOf Fine = 0
+numberOf (Refused r) = r .number
+
+abbrev pub placeOf : Verdict → ℕ
+placeOf Fine = 0
+placeOf (Refused r) = r .place
+
+-- number n at place p, where the test says so
+abbrev pub _gives_at_ : Bool → ℕ → ℕ → Verdict
+true gives n at p = refuse n p
+false gives n at p = Fine
+
+-- the first fault wins
+abbrev pub _then_ : Verdict → Verdict → Verdict
+Fine then w = w
+Refused r then w = Refused r
+
+-- the judgements of the numbers below n, in turn
+unfoldable pub each : (ℕ → Verdict) → ℕ → Verdict
+each f zero = Fine
+each f (suc k) = each f k then f k
+
+pub then-fine : (v w : Verdict) → v ≡ Fine → v then w ≡ w
+then-fine v w e = rw e
+
+pub then-refused : (v w : Verdict) (r : Refusal) → v ≡ Refused r → v then w ≡ Refused r
+then-refused v w r e = rw e
+
+pub then-assoc : (u v w : Verdict) → (u then v) then w ≡ u then (v then w)
+then-assoc Fine v w = refl
+then-assoc (Refused r) v w = refl
+
+-- no fault: neither has one
+pub both-fine : (v w : Verdict) → v then w ≡ Fine → (v ≡ Fine) × (w ≡ Fine)
+both-fine Fine w e = (refl, e)
+both-fine (Refused r) w e = let z : _≡_ {A = ℕ} 0 1 = cc in absurd (omega arith)
+
+-- one turn of a loop
+pub each-more : (f : ℕ → Verdict) (k : ℕ) → each f k ≡ Fine → f k ≡ Fine → each f (k + 1) ≡ Fine
+unfolding each
+each-more f k e q = rw (add-one, each, e) q
+
+-- a refused turn settles the judgement
+pub each-stops : (f : ℕ → Verdict) (k n : ℕ) (r : Refusal) → k < n → each f k ≡ Fine → f k ≡ Refused r → each f n ≡ Refused r
+unfolding each
+each-stops f k n r l e q = let s : n ≡ suc k + (n - suc k) = omega arith in rw s (on (n - suc k))
+  where
+    on : (d : ℕ) → each f (suc k + d) ≡ Refused r
+    on zero = rw (add-zero, each, e) q
+    on (suc d) = rw (add-suc, each, on d)
+
+-- no fault in all: none in each
+pub each-fine : (f : ℕ → Verdict) (n k : ℕ) → each f n ≡ Fine → k < n → f k ≡ Fine
+unfolding each
+each-fine f n k e l = let s : n ≡ suc k + (n - suc k) = omega arith in on (n - suc k) (ap (each f) (sym s) ∙ e)
+  where
+    on : (d : ℕ) → each f (suc k + d) ≡ Fine → f k ≡ Fine
+    on zero h = both-fine (each f k) (f k) (rw add-zero at h) .1
+    on (suc d) h = on d (both-fine (each f (suc k + d)) (f (suc k + d)) (rw add-suc at h) .0)
