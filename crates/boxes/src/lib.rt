@@ -6,6 +6,8 @@ use verdict::fault_at;
 ghost use mathlib.Core.Path.{_≡_};
 ghost use Prim.Native.Nat.{_≤_};
 ghost use lib.ListN.{length};
+ghost use lib.Dec.{eqb};
+ghost use Rattle.base.specs.Choice.{one-of};
 ghost use Rattle.boxes.specs.Boxes.{stepAt, stoppedBy, boxesIn, passed};
 
 // What stands at a place of a container.
@@ -55,6 +57,16 @@ pub fn stopped_by(t: Step) -> Verdict
             next: _,
         } => Verdict::Fine,
     }
+}
+
+// Whether a kind has been there, with the box at hand.
+pub fn mark_kind(flag: bool, kind: u32, wanted: u32) -> bool
+    ensures { λ r. ⌜ r ≡ one-of (eqb kind wanted) flag ⌝ }
+{
+    if kind == wanted {
+        return true;
+    }
+    flag
 }
 
 // Passes over the boxes from `from` to `end`, which are to be whole.

@@ -2,7 +2,7 @@
 ghost use mathlib.Core.Path.{_≡_};
 ghost use Prim.Native.Nat.{_+_, _≤_, _<_};
 ghost use lib.ListN.{length};
-ghost use lib.Seq.{sets};
+ghost use Rattle.base.specs.Over.{wrote};
 ghost use Rattle.fields.specs.BigEndian.{be, bytes};
 
 pub fn get8(s: &[u8], at: usize) -> u32
@@ -28,14 +28,14 @@ pub fn get32(s: &[u8], at: usize) -> u32
 
 pub fn put8(d: &mut [u8], at: usize, v: u32)
     requires { ⌜ at < length (now d) ⌝ }
-    ensures { λ _. ⌜ now (d .exit) ≡ sets (now (d .entry)) at (bytes 1 v) ⌝ }
+    ensures { λ _. ⌜ now (d .exit) ≡ wrote (now (d .entry)) at (bytes 1 v) ⌝ }
 {
     d[at] = (v % 256) as u8;
 }
 
 pub fn put16(d: &mut [u8], at: usize, v: u32)
     requires { ⌜ at + 2 ≤ length (now d) ⌝ }
-    ensures { λ _. ⌜ now (d .exit) ≡ sets (now (d .entry)) at (bytes 2 v) ⌝ }
+    ensures { λ _. ⌜ now (d .exit) ≡ wrote (now (d .entry)) at (bytes 2 v) ⌝ }
 {
     d[at] = (v / 256 % 256) as u8;
     d[at + 1] = (v % 256) as u8;
@@ -43,7 +43,7 @@ pub fn put16(d: &mut [u8], at: usize, v: u32)
 
 pub fn put32(d: &mut [u8], at: usize, v: u32)
     requires { ⌜ at + 4 ≤ length (now d) ⌝ }
-    ensures { λ _. ⌜ now (d .exit) ≡ sets (now (d .entry)) at (bytes 4 v) ⌝ }
+    ensures { λ _. ⌜ now (d .exit) ≡ wrote (now (d .entry)) at (bytes 4 v) ⌝ }
 {
     d[at] = (v / 256 / 256 / 256 % 256) as u8;
     d[at + 1] = (v / 256 / 256 % 256) as u8;

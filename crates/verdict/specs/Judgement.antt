@@ -57,6 +57,11 @@ pub both-fine : (v w : Verdict) → v then w ≡ Fine → (v ≡ Fine) × (w ≡
 both-fine Fine w e = (refl, e)
 both-fine (Refused r) w e = let z : _≡_ {A = ℕ} 0 1 = cc in absurd (omega arith)
 
+-- a test that gives no fault does not pass
+pub not-given : (b : Bool) (n p : ℕ) → b gives n at p ≡ Fine → b ≡ false
+not-given true n p e = let z : _≡_ {A = ℕ} 0 1 = cc in absurd (omega arith)
+not-given false n p e = refl
+
 -- one turn of a loop
 pub each-more : (f : ℕ → Verdict) (k : ℕ) → each f k ≡ Fine → f k ≡ Fine → each f (k + 1) ≡ Fine
 unfolding each
@@ -79,3 +84,9 @@ each-fine f n k e l = let s : n ≡ suc k + (n - suc k) = omega arith in on (n -
     on : (d : ℕ) → each f (suc k + d) ≡ Fine → f k ≡ Fine
     on zero h = both-fine (each f k) (f k) (rw add-zero at h) .1
     on (suc d) h = on d (both-fine (each f (suc k + d)) (f (suc k + d)) (rw add-suc at h) .0)
+
+-- no fault in each: none in all
+pub each-all : (f : ℕ → Verdict) (n : ℕ) → ((k : ℕ) → k < n → f k ≡ Fine) → each f n ≡ Fine
+unfolding each
+each-all f zero h = refl
+each-all f (suc n) h = rw (each-all f n (λ k l. h k (omega arith))) (h n (omega arith))

@@ -3,13 +3,14 @@ use native.Mathlib.Omega.{arith}
 use lib.ListN.{length-set}
 use native.Mathlib.Numerals.{towards-suc}
 use borrow.Author.Needs.{needs}
-use Rattle.fields.specs.BigEndian.{bytes}
+use Rattle.base.specs.Over.{sets-wrote}
+use Rattle.fields.specs.BigEndian.{bytes, length-bytes}
 use Rattle.fields.proofs.put16.Statement.{statement}
 use Rattle.fields.proofs.put16.Tie as tie
 
 returns : tie.Need-returns
 unfolding bytes
-returns c = simp towards-suc
+returns c = rw (← sets-wrote (c .args .d .now) (c .args .at) (bytes 2 (c .args .v)) (omega (arith, length-bytes 2 (c .args .v)))) (simp towards-suc)
 
 pub put16-spec : {M : Type 1} → statement M
 put16-spec = tie.close (tie.spec (λ c. search needs) (λ c. search needs) (λ c. search needs) (λ c. search needs) (λ c. simp length-set (omega arith)) (λ c. simp length-set) returns)

@@ -1,0 +1,68 @@
+-- Laws for the functions: the parts that are judged, and what the two loops over IDs show.
+use Prim.Native.Nat.{ℕ, zero, suc, _+_, _-_, _≤_, _<_}
+use mathlib.Core.Path.{_≡_, refl, sym, ap, _∙_}
+use mathlib.Core.Bool.{true, false}
+use mathlib.Core.List.{List}
+use native.Mathlib.Omega.{arith}
+use lib.Dec.{eqb, ltb}
+use lib.ListN.{length, take, drop}
+use borrow.Author.Tests.{eq-eqb, ne-eqb, ltb-false}
+use Rattle.base.specs.First.{first-none, first-some}
+use Rattle.verdict.specs.declared.Verdict.the-variants.{Fine}
+use Rattle.verdict.specs.Judgement.{refuse}
+use Rattle.cues.specs.Records.{sourceId, startMs, textOffset, identifierLength, settingsOffset, settingsLength, payloadOffset, payloadLength, textsEnd, piece, pastPool, startFalls, found, stoodEarlier, twiceAt, judgeIds}
+
+-- the texts stand one after the other
+pub record InOrder (recs : List ℕ) (i : ℕ) : Type 0 where
+  pub settings-at : settingsOffset recs i ≡ textOffset recs i + identifierLength recs i
+  pub payload-at : payloadOffset recs i ≡ settingsOffset recs i + settingsLength recs i
+  pub end-at : textsEnd recs i ≡ payloadOffset recs i + payloadLength recs i
+
+pub in-order : (recs : List ℕ) (i : ℕ) → InOrder recs i
+unfolding settingsOffset payloadOffset textsEnd
+in-order recs i = record { settings-at = refl; payload-at = refl; end-at = refl }
+
+-- the part from x to x + n
+pub part-is : (pool : List ℕ) (a b x n : ℕ) → a ≡ x → b ≡ x + n → take (b - a) (drop a pool) ≡ piece pool x n
+unfolding piece
+part-is pool a b x n p q =
+    let e : b - a ≡ n = omega arith in
+    ap (λ (k : ℕ). take k (drop a pool)) e ∙ ap (λ (k : ℕ). take n (drop k pool)) p
+
+pub in-pool : (recs pool : List ℕ) (i : ℕ) → pastPool recs pool i ≡ false → textsEnd recs i ≤ length pool
+unfolding pastPool
+in-pool recs pool i h = ltb-false (length pool) (textsEnd recs i) h
+
+-- after the first record the start is compared with the one before
+pub falls-at : (recs : List ℕ) (i x y : ℕ) → (i ≡ 0 → ⊥) → x ≡ startMs recs i → y ≡ startMs recs (i - 1) → ltb x y ≡ startFalls recs i
+unfolding startFalls
+falls-at recs zero x y h p q = absurd (h refl)
+falls-at recs (suc i) x y h p q =
+    let e : suc i - 1 ≡ i = omega arith in
+    rw (p, q, e)
+
+-- no record before j has the ID of record i
+abbrev pub Fresh : List ℕ → ℕ → ℕ → Type 0
+Fresh recs i j = (k : ℕ) → k < j → eqb (sourceId recs k) (sourceId recs i) ≡ false
+
+-- no ID of a record before i stood earlier
+abbrev pub Apart : List ℕ → ℕ → Type 0
+Apart recs i = (k : ℕ) → k < i → stoodEarlier recs k ≡ false
+
+pub differ : (recs : List ℕ) (j i x y : ℕ) → x ≡ sourceId recs j → y ≡ sourceId recs i → (x ≡ y → ⊥) → eqb (sourceId recs j) (sourceId recs i) ≡ false
+differ recs j i x y p q h = ne-eqb (sourceId recs j) (sourceId recs i) (λ e. h (p ∙ e ∙ sym q))
+
+pub fresh-apart : (recs : List ℕ) (i : ℕ) → Fresh recs i i → stoodEarlier recs i ≡ false
+unfolding stoodEarlier
+fresh-apart recs i h = ap found (first-none (λ j. eqb (sourceId recs j) (sourceId recs i)) i h)
+
+pub none-twice : (recs : List ℕ) (n i : ℕ) → n ≤ i → Apart recs i → Fine ≡ judgeIds recs n
+unfolding judgeIds
+none-twice recs n i l h = sym (ap twiceAt (first-none (stoodEarlier recs) n (λ k m. h k (omega arith))))
+
+pub one-twice : (recs : List ℕ) (n i j x y : ℕ) → i < n → j < i → x ≡ sourceId recs j → y ≡ sourceId recs i → x ≡ y → Fresh recs i j → Apart recs i → refuse 12 i ≡ judgeIds recs n
+unfolding judgeIds stoodEarlier
+one-twice recs n i j x y l m p q e f d =
+    let same : eqb (sourceId recs j) (sourceId recs i) ≡ true = eq-eqb (sourceId recs j) (sourceId recs i) (sym p ∙ e ∙ q) in
+    let stood : stoodEarlier recs i ≡ true = ap found (first-some (λ k. eqb (sourceId recs k) (sourceId recs i)) i j m same f) in
+    sym (ap twiceAt (first-some (stoodEarlier recs) n i l stood d))

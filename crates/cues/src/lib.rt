@@ -1,0 +1,251 @@
+// Cue records: 24 bytes each, no header, with their texts in a pool; and the judgement of a list.
+use fields::get16;
+use fields::get32;
+use text::is_identifier;
+use text::is_payload;
+use times::tick_of;
+use times::timeline_allowed;
+use verdict::Verdict;
+use verdict::refused;
+ghost use mathlib.Core.Path.{_≡_};
+ghost use Prim.Native.Nat.{_+_, _*_, _≤_, _<_};
+ghost use lib.ListN.{length};
+ghost use Rattle.verdict.specs.Judgement.{each};
+ghost use Rattle.cues.specs.Records.{sourceId, startMs, endMs, textOffset, identifierLength, settingsLength, payloadLength, reserved};
+ghost use Rattle.cues.specs.Records.{settingsOffset, payloadOffset, textsEnd};
+ghost use Rattle.cues.specs.Records.{badValue, tooLong, pastPool, badText, badTime, startFalls, judgeRecord, judgeIds, judgeList};
+
+// The fields of record i.
+pub fn source_id(records: &[u8], i: usize) -> u32
+    requires { ⌜ i * 24 + 24 ≤ length (now records) ⌝ }
+    ensures { λ r. ⌜ (r ≡ sourceId (now (records .entry)) i) × (r < 4294967296) ⌝ }
+{
+    get32(records, i * 24)
+}
+
+pub fn start_ms(records: &[u8], i: usize) -> u32
+    requires { ⌜ i * 24 + 24 ≤ length (now records) ⌝ }
+    ensures { λ r. ⌜ (r ≡ startMs (now (records .entry)) i) × (r < 4294967296) ⌝ }
+{
+    get32(records, i * 24 + 4)
+}
+
+pub fn end_ms(records: &[u8], i: usize) -> u32
+    requires { ⌜ i * 24 + 24 ≤ length (now records) ⌝ }
+    ensures { λ r. ⌜ (r ≡ endMs (now (records .entry)) i) × (r < 4294967296) ⌝ }
+{
+    get32(records, i * 24 + 8)
+}
+
+pub fn text_offset(records: &[u8], i: usize) -> u32
+    requires { ⌜ i * 24 + 24 ≤ length (now records) ⌝ }
+    ensures { λ r. ⌜ (r ≡ textOffset (now (records .entry)) i) × (r < 4294967296) ⌝ }
+{
+    get32(records, i * 24 + 12)
+}
+
+pub fn identifier_length(records: &[u8], i: usize) -> u32
+    requires { ⌜ i * 24 + 24 ≤ length (now records) ⌝ }
+    ensures { λ r. ⌜ (r ≡ identifierLength (now (records .entry)) i) × (r < 65536) ⌝ }
+{
+    get16(records, i * 24 + 16)
+}
+
+pub fn settings_length(records: &[u8], i: usize) -> u32
+    requires { ⌜ i * 24 + 24 ≤ length (now records) ⌝ }
+    ensures { λ r. ⌜ (r ≡ settingsLength (now (records .entry)) i) × (r < 65536) ⌝ }
+{
+    get16(records, i * 24 + 18)
+}
+
+pub fn payload_length(records: &[u8], i: usize) -> u32
+    requires { ⌜ i * 24 + 24 ≤ length (now records) ⌝ }
+    ensures { λ r. ⌜ (r ≡ payloadLength (now (records .entry)) i) × (r < 65536) ⌝ }
+{
+    get16(records, i * 24 + 20)
+}
+
+fn reserved_bytes(records: &[u8], i: usize) -> u32
+    requires { ⌜ i * 24 + 24 ≤ length (now records) ⌝ }
+    ensures { λ r. ⌜ (r ≡ reserved (now (records .entry)) i) × (r < 65536) ⌝ }
+{
+    get16(records, i * 24 + 22)
+}
+
+// The offsets of the settings and of the payload, and the end of the three texts.
+pub fn settings_offset(records: &[u8], i: usize) -> usize
+    requires { ⌜ i * 24 + 24 ≤ length (now records) ⌝ }
+    ensures { λ r. ⌜ (r ≡ settingsOffset (now (records .entry)) i) × (r < 4295032832) ⌝ }
+{
+    text_offset(records, i) as usize + identifier_length(records, i) as usize
+}
+
+pub fn payload_offset(records: &[u8], i: usize) -> usize
+    requires { ⌜ i * 24 + 24 ≤ length (now records) ⌝ }
+    ensures { λ r. ⌜ (r ≡ payloadOffset (now (records .entry)) i) × (r < 4295098368) ⌝ }
+{
+    settings_offset(records, i) + settings_length(records, i) as usize
+}
+
+pub fn texts_end(records: &[u8], i: usize) -> usize
+    requires { ⌜ i * 24 + 24 ≤ length (now records) ⌝ }
+    ensures { λ r. ⌜ (r ≡ textsEnd (now (records .entry)) i) × (r < 4295163904) ⌝ }
+{
+    payload_offset(records, i) + payload_length(records, i) as usize
+}
+
+// The tests of the judgement, one by one.
+fn bad_value(records: &[u8], i: usize) -> bool
+    requires { ⌜ i * 24 + 24 ≤ length (now records) ⌝ }
+    ensures { λ r. ⌜ r ≡ badValue (now (records .entry)) i ⌝ }
+{
+    if 0x80000000 <= source_id(records, i) {
+        return true;
+    }
+    0 < reserved_bytes(records, i)
+}
+
+fn too_long(records: &[u8], i: usize) -> bool
+    requires { ⌜ i * 24 + 24 ≤ length (now records) ⌝ }
+    ensures { λ r. ⌜ r ≡ tooLong (now (records .entry)) i ⌝ }
+{
+    if 255 < identifier_length(records, i) {
+        return true;
+    }
+    if 255 < settings_length(records, i) {
+        return true;
+    }
+    4095 < payload_length(records, i)
+}
+
+fn past_pool(records: &[u8], pool: &[u8], i: usize) -> bool
+    requires { ⌜ i * 24 + 24 ≤ length (now records) ⌝ }
+    ensures { λ r. ⌜ r ≡ pastPool (now (records .entry)) (now (pool .entry)) i ⌝ }
+{
+    pool.len() < texts_end(records, i)
+}
+
+fn bad_text(records: &[u8], pool: &[u8], i: usize) -> bool
+    requires { ⌜ (i * 24 + 24 ≤ length (now records)) × (textsEnd (now records) i ≤ length (now pool)) ⌝ }
+    ensures { λ r. ⌜ r ≡ badText (now (records .entry)) (now (pool .entry)) i ⌝ }
+{
+    let identifier = text_offset(records, i) as usize;
+    let settings = settings_offset(records, i);
+    let payload = payload_offset(records, i);
+    let end = texts_end(records, i);
+    if !is_identifier(&pool[identifier..settings]) {
+        return true;
+    }
+    if !is_identifier(&pool[settings..payload]) {
+        return true;
+    }
+    !is_payload(&pool[payload..end])
+}
+
+fn bad_time(scale: u32, t: u32, records: &[u8], i: usize) -> bool
+    requires { ⌜ i * 24 + 24 ≤ length (now records) ⌝ }
+    ensures { λ r. ⌜ r ≡ badTime scale t (now (records .entry)) i ⌝ }
+{
+    let start = start_ms(records, i);
+    let end = end_ms(records, i);
+    if end <= start {
+        return true;
+    }
+    if t < end {
+        return true;
+    }
+    tick_of(scale, end) <= tick_of(scale, start)
+}
+
+fn start_falls(records: &[u8], i: usize) -> bool
+    requires { ⌜ i * 24 + 24 ≤ length (now records) ⌝ }
+    ensures { λ r. ⌜ r ≡ startFalls (now (records .entry)) i ⌝ }
+{
+    if i == 0 {
+        return false;
+    }
+    start_ms(records, i) < start_ms(records, i - 1)
+}
+
+fn judge_record(scale: u32, t: u32, records: &[u8], pool: &[u8], i: usize) -> Verdict
+    requires { ⌜ i * 24 + 24 ≤ length (now records) ⌝ }
+    ensures { λ r. ⌜ r ≡ judgeRecord scale t (now (records .entry)) (now (pool .entry)) i ⌝ }
+{
+    if bad_value(records, i) {
+        return refused(8, i);
+    }
+    if too_long(records, i) {
+        return refused(9, i);
+    }
+    if past_pool(records, pool, i) {
+        return refused(1, i);
+    }
+    if bad_text(records, pool, i) {
+        return refused(6, i);
+    }
+    if bad_time(scale, t, records, i) {
+        return refused(10, i);
+    }
+    if start_falls(records, i) {
+        return refused(11, i);
+    }
+    Verdict::Fine
+}
+
+fn judge_records(scale: u32, t: u32, records: &[u8], pool: &[u8], n: usize) -> Verdict
+    requires { ⌜ n * 24 ≤ length (now records) ⌝ }
+    ensures { λ r. ⌜ r ≡ each (judgeRecord scale t (now (records .entry)) (now (pool .entry))) n ⌝ }
+{
+    let mut i = 0;
+    while i < n {
+        let v = judge_record(scale, t, records, pool, i);
+        let Verdict::Fine = v else {
+            return v;
+        };
+        i += 1;
+    }
+    Verdict::Fine
+}
+
+// The search ends at the first pair found; i is the later record of it.
+fn first_twice(records: &[u8], n: usize) -> Verdict
+    requires { ⌜ n * 24 ≤ length (now records) ⌝ }
+    ensures { λ r. ⌜ r ≡ judgeIds (now (records .entry)) n ⌝ }
+{
+    let mut i = 0;
+    'search: while i < n {
+        let id = source_id(records, i);
+        let mut j = 0;
+        while j < i {
+            if source_id(records, j) == id {
+                break 'search;
+            }
+            j += 1;
+        }
+        i += 1;
+    }
+    if i < n {
+        return refused(12, i);
+    }
+    Verdict::Fine
+}
+
+pub fn judge_list(scale: u32, t: u32, records: &[u8], pool: &[u8]) -> Verdict
+    ensures { λ r. ⌜ r ≡ judgeList scale t (now (records .entry)) (now (pool .entry)) ⌝ }
+{
+    if !timeline_allowed(scale, t) {
+        return refused(10, 0);
+    }
+    if 0 < records.len() % 24 {
+        return refused(1, 0);
+    }
+    let n = records.len() / 24;
+    if 1024 < n {
+        return refused(9, 0);
+    }
+    let v = judge_records(scale, t, records, pool, n);
+    let Verdict::Fine = v else {
+        return v;
+    };
+    first_twice(records, n)
+}

@@ -1,0 +1,17 @@
+pub mod Running
+pub mod Holding
+pub mod Sorting
+pub mod Matching
+pub mod Answers
+pub mod Packed
+pub mod Fewest
+pub mod Honesty
+pub mod Splitting
+pub mod Nearest
+pub mod Indexed
+pub mod Listing
+pub mod Stopping
+pub mod Taking
+pub mod Complete
+pub mod Retimed
+pub mod Cases

@@ -1,0 +1,6 @@
+pub mod Lists
+pub mod Cues
+pub mod Tracks
+pub mod Packing
+pub mod Checking
+pub mod Unpacking

@@ -1,0 +1,10 @@
+-- `track::place_at` meets its contract: by the two cases of a verdict.
+use borrow.Author.Needs.{needs}
+use Rattle.track.proofs.place_at.Statement.{statement}
+use Rattle.track.proofs.place_at.Tie as tie
+
+returns-2 : tie.Need-returns-2
+returns-2 c = rw (c .before .before .v .given .1) (c .refused .ensures)
+
+pub place-at-spec : {M : Type 1} → statement M
+place-at-spec = tie.close (tie.spec (λ c. search needs) (λ c. search needs) (λ c. search needs) (λ c κs. search needs) returns-2)

@@ -1,0 +1,4 @@
+pub mod Kinds
+pub mod Sample
+pub mod Seen
+pub mod Sound
