@@ -1,0 +1,13 @@
+-- `captions::flat_verdict` meets its contract: case by case.
+use borrow.Author.Needs.{needs}
+use Rattle.captions.proofs.flat_verdict.Statement.{statement}
+use Rattle.captions.proofs.flat_verdict.Tie as tie
+
+returns : tie.Need-returns
+returns c = rw (c .enum-told .given .1)
+
+returns-2 : tie.Need-returns-2
+returns-2 c = rw (c .before .v .given .1)
+
+pub flat-verdict-spec : {M : Type 1} → statement M
+flat-verdict-spec = tie.close (tie.spec (λ c. search needs) (λ c. search needs) returns returns-2)

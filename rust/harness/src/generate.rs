@@ -1,0 +1,32 @@
+//! Random inputs, good and damaged, for every operation.
+
+mod boxes;
+mod cue_list;
+mod damage;
+mod program;
+mod text;
+mod track;
+mod tx3g;
+mod wvtt;
+
+pub use boxes::{box_of, step_input};
+pub use cue_list::{list, CueList};
+pub use damage::{damage_boxes, damage_bytes};
+pub use program::{program_input, ProgramInput};
+pub use text::{any_text, identifier, payload, tx3g_text};
+pub use track::{check_input, packed, unpack_input, Track};
+pub use tx3g::{sample_for, tx3g_entry, tx3g_input};
+pub use wvtt::{wvtt_entry, wvtt_sample};
+
+use crate::random::Random;
+
+/// The room of an output for a result of `need` bytes: exact, short, long, or none.
+pub fn room(random: &mut Random, need: usize) -> usize {
+    match random.below(10) {
+        0..=2 => need,
+        3 => need.saturating_sub(1),
+        4 => random.below(need + 1),
+        5 => need + 1,
+        _ => need + random.below(200),
+    }
+}

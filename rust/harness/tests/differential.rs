@@ -1,0 +1,159 @@
+//! The random inputs reach every number, and wrong libraries are found.
+
+use captions_harness::{
+    differential, Counts, Library, Model, Offered, Packed, Refusal, Tx3gRefusal, Unpacked,
+};
+
+const ROUNDS: u64 = 30_000;
+
+fn compared() -> Counts {
+    differential(&Model, &Model, 1, ROUNDS).unwrap_or_else(|d| panic!("{d}"))
+}
+
+#[test]
+fn every_number_is_reached() {
+    let counts = compared();
+    print!("{counts}");
+    assert_eq!(counts.total_skipped(), 0);
+    let reached = |operation: &'static str, numbers: &[u32]| {
+        for &number in numbers {
+            let times = counts
+                .compared
+                .get(&(operation, number))
+                .copied()
+                .unwrap_or(0);
+            assert!(times > 0, "{operation} never gives {number}");
+        }
+    };
+    reached("box_step", &[0, 1, 2]);
+    reached("judge_sample", &[0, 1, 2, 3, 4, 5, 6, 8, 9]);
+    reached("judge_wvtt_entry", &[0, 1, 2, 3, 4, 6]);
+    reached("judge_list", &[0, 1, 6, 8, 9, 10, 11, 12]);
+    reached("pack", &[0, 1, 6, 8, 9, 10, 11, 12, 15]);
+    reached("judge_track", &[0, 1, 2, 3, 4, 5, 6, 8, 9, 10]);
+    reached(
+        "unpack",
+        &[0, 1, 2, 3, 4, 5, 6, 8, 9, 10, 11, 12, 13, 14, 15, 17],
+    );
+    reached("check", &[0, 1, 2, 3, 4, 5, 6, 8, 9, 10, 11, 12, 16]);
+    reached("judge_tx3g_entry", &[0, 1, 2, 3, 4, 7, 8, 9]);
+    reached("judge_tx3g_sample", &[0, 1, 2, 3, 4, 6, 7, 8, 9]);
+    reached("program", &[0, 1, 6, 8, 9, 10, 11, 12, 15]);
+}
+
+/// That a wrong library is found, and at which operation.
+fn assert_found(wrong: &dyn Library, operation: &str) {
+    let found = differential(&Model, wrong, 7, ROUNDS);
+    let found = found.expect_err("the wrong library passed");
+    assert_eq!(found.operation, operation, "{found}");
+}
+
+/// Packs well but clears the rest of the table.
+struct ClearsTheRest;
+
+impl Library for ClearsTheRest {
+    fn pack(
+        &self,
+        scale: u32,
+        t: u32,
+        records: &[u8],
+        pool: &[u8],
+        table: &mut [u8],
+        samples: &mut [u8],
+    ) -> Offered<Result<Packed, Refusal>> {
+        let answer = Model.pack(scale, t, records, pool, table, samples)?;
+        if let Ok(packed) = answer {
+            table[packed.table_bytes..].fill(0);
+        }
+        Some(answer)
+    }
+}
+
+/// Unpacks well but writes although it refuses.
+struct WritesOnRefusal;
+
+impl Library for WritesOnRefusal {
+    fn unpack(
+        &self,
+        scale: u32,
+        table: &[u8],
+        samples: &[u8],
+        records: &mut [u8],
+        pool: &mut [u8],
+    ) -> Offered<Result<Unpacked, Refusal>> {
+        let answer = Model.unpack(scale, table, samples, records, pool)?;
+        if answer.is_err() && !pool.is_empty() {
+            pool[0] ^= 1;
+        }
+        Some(answer)
+    }
+}
+
+/// Accepts a track that differs only after its first samples.
+struct ChecksLess;
+
+impl Library for ChecksLess {
+    fn check(
+        &self,
+        scale: u32,
+        t: u32,
+        records: &[u8],
+        pool: &[u8],
+        table: &[u8],
+        samples: &[u8],
+    ) -> Offered<Result<(), Refusal>> {
+        let answer = Model.check(scale, t, records, pool, table, samples)?;
+        Some(answer.or_else(|r| {
+            if r.number == 16 && r.place > 2 {
+                Ok(())
+            } else {
+                Err(r)
+            }
+        }))
+    }
+}
+
+/// Counts bytes.
+struct CountsBytes;
+
+impl Library for CountsBytes {
+    fn judge_tx3g_sample(
+        &self,
+        entry: &[u8],
+        sample: &[u8],
+    ) -> Offered<Result<usize, Tx3gRefusal>> {
+        let answer = Model.judge_tx3g_sample(entry, sample)?;
+        Some(answer.map(|_| usize::from(u16::from_be_bytes([sample[0], sample[1]]))))
+    }
+}
+
+/// Gives every fault of a sample the place 0.
+struct NoPlaces;
+
+impl Library for NoPlaces {
+    fn judge_sample(&self, sample: &[u8]) -> Offered<Result<(), Refusal>> {
+        let answer = Model.judge_sample(sample)?;
+        Some(answer.map_err(|r| Refusal { place: 0, ..r }))
+    }
+}
+
+#[test]
+fn wrong_libraries_are_found() {
+    assert_found(&ClearsTheRest, "pack");
+    assert_found(&WritesOnRefusal, "unpack");
+    assert_found(&ChecksLess, "check");
+    assert_found(&CountsBytes, "judge_tx3g_sample");
+    assert_found(&NoPlaces, "judge_sample");
+}
+
+#[test]
+fn a_round_can_be_repeated() {
+    let found = differential(&Model, &NoPlaces, 7, ROUNDS).expect_err("places are compared");
+    let mut counts = Counts::default();
+    let again =
+        captions_harness::differential_round(&Model, &NoPlaces, 7, found.round, &mut counts);
+    assert_eq!(
+        again.expect_err("the same round differs").input,
+        found.input
+    );
+}

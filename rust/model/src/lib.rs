@@ -1,0 +1,99 @@
+//! A plain model of the captions library: WebVTT (`wvtt`) and 3GPP text (`tx3g`)
+//! samples and sample entries, cue lists, tracks, packing, unpacking and the check.
+//!
+//! All inputs and outputs are lent byte slices. A refusal gives a number and a place
+//! and leaves every output as it was.
+
+pub mod boxes;
+pub mod check;
+pub mod list;
+pub mod pack;
+pub mod program;
+pub mod text;
+pub mod time;
+mod timeline;
+pub mod track;
+pub mod tx3g;
+pub mod unpack;
+pub mod wvtt;
+
+/// The numbers of refusals.
+pub mod number {
+    /// Bytes missing: header, body, record, text past the pool, sample past the bytes.
+    pub const BYTES_MISSING: u32 = 1;
+    /// A box size below 8, a body longer than its kind, bytes left over, another entry type.
+    pub const BAD_SIZE: u32 = 2;
+    /// A kind twice.
+    pub const KIND_TWICE: u32 = 3;
+    /// `payl`, `vttC`, `ftab` or every cue missing; a sample of size 0.
+    pub const BOX_MISSING: u32 = 4;
+    /// `vtte` beside `vttc` or a second `vtte`.
+    pub const NOT_ALONE: u32 = 5;
+    /// Bad text.
+    pub const BAD_TEXT: u32 = 6;
+    /// Bad range, box or style order; a character past the text.
+    pub const BAD_RANGE: u32 = 7;
+    /// A value not allowed.
+    pub const BAD_VALUE: u32 = 8;
+    /// A limit passed.
+    pub const PAST_LIMIT: u32 = 9;
+    /// Scale, timeline or time not allowed, zero duration.
+    pub const BAD_TIME: u32 = 10;
+    /// Starts fall; cues in a sample not in order of first appearance.
+    pub const BAD_ORDER: u32 = 11;
+    /// An ID twice in a list or a sample.
+    pub const ID_TWICE: u32 = 12;
+    /// An ID comes back after a gap.
+    pub const ID_AFTER_GAP: u32 = 13;
+    /// One ID, other texts.
+    pub const OTHER_TEXTS: u32 = 14;
+    /// Output too short for the whole result.
+    pub const NO_ROOM: u32 = 15;
+    /// The track differs.
+    pub const DIFFERS: u32 = 16;
+    /// A cue without ID, in unpacking.
+    pub const NO_ID: u32 = 17;
+}
+
+/// Why something was refused, and where.
+#[derive(Clone, Copy, Debug, PartialEq, Eq)]
+pub struct Refusal {
+    pub number: u32,
+    pub place: usize,
+}
+
+/// A refusal as a result.
+pub(crate) fn refuse<T>(number: u32, place: usize) -> Result<T, Refusal> {
+    Err(Refusal { number, place })
+}
+
+/// Refuses unless `good` holds.
+pub(crate) fn ensure(good: bool, number: u32, place: usize) -> Result<(), Refusal> {
+    if good {
+        Ok(())
+    } else {
+        refuse(number, place)
+    }
+}
+
+/// A part of some bytes, from `start` up to `end`.
+#[derive(Clone, Copy, Debug, Default, PartialEq, Eq)]
+pub struct Span {
+    pub start: usize,
+    pub end: usize,
+}
+
+impl Span {
+    /// The bytes of this part.
+    pub fn of(self, bytes: &[u8]) -> &[u8] {
+        &bytes[self.start..self.end]
+    }
+
+    pub fn len(self) -> usize {
+        self.end - self.start
+    }
+
+    pub fn is_empty(self) -> bool {
+        self.start == self.end
+    }
+}

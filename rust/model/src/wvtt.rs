@@ -1,0 +1,184 @@
+//! WebVTT samples and sample entries.
+
+use crate::boxes::{be32, boxes, boxes_from, BoxAt, Boxes};
+use crate::list::Texts;
+use crate::number::*;
+use crate::{ensure, refuse, text, Refusal, Span};
+
+/// Source IDs lie below this.
+pub const ID_LIMIT: u32 = 1 << 31;
+/// The longest identifier, settings or cue time.
+pub const MOST_IDENTIFIER: usize = 255;
+/// The longest payload.
+pub const MOST_PAYLOAD: usize = 4095;
+/// Size, type, six bytes and the data reference index of a sample entry.
+pub const ENTRY_FIXED: usize = 16;
+
+/// A cue in a sample: its ID and where its texts stand.
+#[derive(Clone, Copy, Debug, Default, PartialEq, Eq)]
+pub struct Cue {
+    pub id: Option<u32>,
+    pub identifier: Span,
+    pub settings: Span,
+    pub payload: Span,
+}
+
+impl Cue {
+    /// Its texts in the sample it was read from.
+    pub fn texts(self, sample: &[u8]) -> Texts<'_> {
+        Texts {
+            identifier: self.identifier.of(sample),
+            settings: self.settings.of(sample),
+            payload: self.payload.of(sample),
+        }
+    }
+}
+
+/// Judges a whole sample.
+pub fn judge_sample(sample: &[u8]) -> Result<(), Refusal> {
+    let (mut cues, mut empty) = (0usize, 0usize);
+    for found in boxes_from(sample, 0) {
+        let found = found?;
+        match &found.kind {
+            b"vttc" => {
+                judge_cue(sample, found)?;
+                cues += 1;
+            }
+            b"vtte" => {
+                boxes(sample, found.body).try_for_each(|inner| inner.map(drop))?;
+                empty += 1;
+            }
+            _ => {}
+        }
+    }
+    match (cues, empty) {
+        (0, 0) => refuse(BOX_MISSING, 0),
+        (0, 1) | (_, 0) => Ok(()),
+        _ => refuse(NOT_ALONE, 0),
+    }
+}
+
+/// The cues of a good sample from left to right.
+pub fn cues(sample: &[u8]) -> Cues<'_> {
+    Cues {
+        sample,
+        boxes: boxes_from(sample, 0),
+    }
+}
+
+/// See [`cues`].
+#[derive(Clone)]
+pub struct Cues<'a> {
+    sample: &'a [u8],
+    boxes: Boxes<'a>,
+}
+
+impl Iterator for Cues<'_> {
+    type Item = Cue;
+
+    fn next(&mut self) -> Option<Cue> {
+        let sample = self.sample;
+        self.boxes
+            .by_ref()
+            .map_while(Result::ok)
+            .find(|found| &found.kind == b"vttc")
+            .map(|found| read_cue(sample, found))
+    }
+}
+
+fn read_cue(sample: &[u8], cue_box: BoxAt) -> Cue {
+    let mut cue = Cue::default();
+    for inner in boxes(sample, cue_box.body).map_while(Result::ok) {
+        match &inner.kind {
+            b"vsid" => cue.id = Some(be32(sample, inner.body.start)),
+            b"iden" => cue.identifier = inner.body,
+            b"sttg" => cue.settings = inner.body,
+            b"payl" => cue.payload = inner.body,
+            _ => {}
+        }
+    }
+    cue
+}
+
+/// The kinds a `vttc` holds at most once; the payload is the last.
+const CUE_KINDS: [&[u8; 4]; 5] = [b"vsid", b"iden", b"ctim", b"sttg", b"payl"];
+const PAYLOAD_BIT: u8 = 1 << 4;
+
+fn judge_cue(sample: &[u8], cue_box: BoxAt) -> Result<(), Refusal> {
+    let mut seen = 0u8;
+    for inner in boxes(sample, cue_box.body) {
+        let inner = inner?;
+        let Some(kind) = CUE_KINDS.iter().position(|&k| *k == inner.kind) else {
+            continue;
+        };
+        ensure(seen & (1 << kind) == 0, KIND_TWICE, inner.place)?;
+        seen |= 1 << kind;
+        judge_cue_part(&inner.kind, inner.body.of(sample), inner.place)?;
+    }
+    ensure(seen & PAYLOAD_BIT != 0, BOX_MISSING, cue_box.place)
+}
+
+fn judge_cue_part(kind: &[u8; 4], body: &[u8], place: usize) -> Result<(), Refusal> {
+    match kind {
+        b"vsid" => judge_source_id(body, place),
+        b"payl" => {
+            ensure(body.len() <= MOST_PAYLOAD, PAST_LIMIT, place)?;
+            ensure(text::is_payload(body), BAD_TEXT, place)
+        }
+        _ => {
+            ensure(body.len() <= MOST_IDENTIFIER, PAST_LIMIT, place)?;
+            ensure(text::is_identifier(body), BAD_TEXT, place)
+        }
+    }
+}
+
+fn judge_source_id(body: &[u8], place: usize) -> Result<(), Refusal> {
+    ensure(body.len() >= 4, BYTES_MISSING, place)?;
+    ensure(body.len() == 4, BAD_SIZE, place)?;
+    ensure(be32(body, 0) < ID_LIMIT, BAD_VALUE, place)
+}
+
+/// The texts of a good `wvtt` entry.
+#[derive(Clone, Copy, Debug, PartialEq, Eq)]
+pub struct Entry {
+    pub configuration: Span,
+    pub label: Option<Span>,
+}
+
+/// Reads a `wvtt` sample entry.
+pub fn read_entry(entry: &[u8]) -> Result<Entry, Refusal> {
+    judge_entry_head(entry, b"wvtt", ENTRY_FIXED)?;
+    let (mut configuration, mut label) = (None, None);
+    for found in boxes_from(entry, ENTRY_FIXED) {
+        let found = found?;
+        let (slot, rule): (_, fn(&[u8]) -> bool) = match &found.kind {
+            b"vttC" => (&mut configuration, text::is_configuration),
+            b"vlab" => (&mut label, text::is_label),
+            _ => continue,
+        };
+        ensure(slot.is_none(), KIND_TWICE, found.place)?;
+        ensure(rule(found.body.of(entry)), BAD_TEXT, found.place)?;
+        *slot = Some(found.body);
+    }
+    match configuration {
+        Some(configuration) => Ok(Entry {
+            configuration,
+            label,
+        }),
+        None => refuse(BOX_MISSING, 0),
+    }
+}
+
+/// Judges a `wvtt` sample entry.
+pub fn judge_entry(entry: &[u8]) -> Result<(), Refusal> {
+    read_entry(entry).map(drop)
+}
+
+/// Size and type of a sample entry with `fixed` bytes before its boxes.
+pub(crate) fn judge_entry_head(entry: &[u8], kind: &[u8], fixed: usize) -> Result<(), Refusal> {
+    ensure(entry.len() >= fixed, BYTES_MISSING, 0)?;
+    let size = be32(entry, 0) as usize;
+    ensure(size <= entry.len(), BYTES_MISSING, 0)?;
+    let whole = size >= fixed && size == entry.len();
+    ensure(whole && &entry[4..8] == kind, BAD_SIZE, 0)
+}
