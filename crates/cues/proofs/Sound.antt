@@ -163,7 +163,7 @@ module _ (scale T : ℕ) (recs pool : List ℕ) where
   fine-iff = (fine-sound, sound-fine)
 
   -- starts never fall, over any distance
-  starts : Sound scale T recs pool → (d i : ℕ) → i + d < count recs → startMs recs i ≤ startMs recs (i + d)
+  pub starts : Sound scale T recs pool → (d i : ℕ) → i + d < count recs → startMs recs i ≤ startMs recs (i + d)
   starts s zero i l = let e : i + 0 ≡ i = omega arith in rw e (le-refl (startMs recs i))
   starts s (suc d) i l =
       let e : i + suc d ≡ suc (i + d) = omega arith in

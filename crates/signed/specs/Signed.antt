@@ -1,0 +1,29 @@
+-- Signed numbers in two's complement. Document 01, '3GPP text': a text box and a justification.
+use Prim.Native.Nat.{ℕ, _+_, _-_}
+use mathlib.Core.Bool.{Bool}
+use mathlib.Core.List.{List}
+use lib.Dec.{ltb}
+use lib.IntN.{ℤ, pos, negsuc}
+use lib.Signed.{leZ}
+use Rattle.base.specs.Choice.{pick, both}
+use Rattle.fields.specs.BigEndian.{be}
+
+-- a number of 16 bits: below 32768 itself, else itself less 65536 (`negsuc n` is -(n + 1))
+unfoldable pub signed16 : ℕ → ℤ
+signed16 v = pick (ltb v 32768) (pos v) (negsuc (65535 - v))
+
+-- a number of 8 bits
+unfoldable pub signed8 : ℕ → ℤ
+signed8 v = pick (ltb v 128) (pos v) (negsuc (255 - v))
+
+-- how many numbers of 16 bits are smaller, as signed numbers
+unfoldable pub shift16 : ℕ → ℕ
+shift16 v = pick (ltb v 32768) (v + 32768) (v - 32768)
+
+-- top, left, bottom, right at `at`: top ≤ bottom and left ≤ right
+unfoldable pub ordered : List ℕ → ℕ → Bool
+ordered s at = both (leZ (signed16 (be 2 s at)) (signed16 (be 2 s (at + 4)))) (leZ (signed16 (be 2 s (at + 2))) (signed16 (be 2 s (at + 6))))
+
+-- -1, 0 or 1
+unfoldable pub justified : ℕ → Bool
+justified v = both (leZ (negsuc 0) (signed8 v)) (leZ (signed8 v) (pos 1))

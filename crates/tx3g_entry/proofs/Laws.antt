@@ -1,0 +1,82 @@
+-- What a sample entry without fault says: it has the fixed bytes, and its fonts lie within it.
+use Prim.Native.Nat.{ℕ, _≤_}
+use mathlib.Core.Path.{_≡_, refl, sym, _∙_}
+use mathlib.Core.List.{List, []}
+use mathlib.Core.Bool.{Bool, true, false, not}
+use native.Mathlib.Omega.{arith}
+use lib.Dec.{ltb, eqb}
+use lib.ListN.{length}
+use borrow.Author.Tests.{ltb-false}
+use Rattle.base.specs.Choice.{one-of}
+use Rattle.verdict.specs.declared.Verdict.{Verdict}
+use Rattle.verdict.specs.declared.Verdict.the-variants.{Fine, Refused}
+use Rattle.verdict.specs.Judgement.{_gives_at_, _then_, both-fine}
+use Rattle.fields.specs.BigEndian.{be}
+use Rattle.boxes.specs.Boxes.{judged, among}
+use Rattle.bodies.specs.declared.Body.{Body}
+use Rattle.bodies.specs.declared.Body.the-variants.{At, Nowhere}
+use Rattle.bodies.proofs.Filled.{fine-false}
+use Rattle.bodies.proofs.Laws.{judged-found}
+use Rattle.tx3g_fonts.specs.Fonts.{fontAt, judgeFonts}
+use Rattle.tx3g_fonts.proofs.Laws.{fonts-fine}
+use Rattle.tx3g_entry.specs.Entry.{tx3g, ftab, judgeSize, judgeFixed, justifiedEntry, plainEntry, inEntry, nothingMore, entryBoxes, fontsOf, endEntry, judgeEntry}
+
+one-of-false : (a b : Bool) → one-of a b ≡ false → a ≡ false
+one-of-false true b h = h
+one-of-false false b h = refl
+
+pub size-fine : (e : List ℕ) → judgeSize e ≡ Fine → 46 ≤ length e
+unfolding judgeSize
+size-fine e h =
+    let w = both-fine (one-of (ltb (length e) 46) (ltb (length e) (be 4 e 0)) gives 1 at 0) (one-of (ltb (be 4 e 0) 46) (one-of (ltb (be 4 e 0) (length e)) (not (eqb (be 4 e 4) tx3g))) gives 2 at 0) h in
+    ltb-false (length e) 46 (one-of-false (ltb (length e) 46) (ltb (length e) (be 4 e 0)) (fine-false (one-of (ltb (length e) 46) (ltb (length e) (be 4 e 0))) 1 0 (w .0)))
+
+pub fixed-fine : (e : List ℕ) → judgeFixed e ≡ Fine → 46 ≤ length e
+unfolding judgeFixed
+fixed-fine e h = size-fine e (both-fine (judgeSize e) (not (justifiedEntry e) gives 8 at 0 then not (plainEntry e) gives 7 at 0) h .0)
+
+-- the fonts of boxes without fault
+pub boxes-fine : (e : List ℕ) (b : ℕ) → judged (inEntry e) nothingMore [] (entryBoxes e) ≡ Fine → fontsOf e ≡ At b → fontAt e b (be 2 e b) ≤ length e
+unfolding fontsOf inEntry entryBoxes
+boxes-fine e b h q =
+    let j = judged-found (inEntry e) nothingMore e (length e) ftab b 46 [] h q in
+    let f : (among ftab (j .kinds) gives 3 at j .place then judgeFonts e (j .place) b (j .next)) ≡ Fine = j .fine in
+    let g = fonts-fine e b (j .place) (j .next) (both-fine (among ftab (j .kinds) gives 3 at j .place) (judgeFonts e (j .place) b (j .next)) f .1) in
+    rw g (j .lies .inside)
+
+-- an entry without fault: where its fonts stand
+pub record Good (e : List ℕ) : Type 0 where
+  pub long : 46 ≤ length e
+  pub fonts : ℕ
+  pub found : fontsOf e ≡ At fonts
+  pub lie : fontAt e fonts (be 2 e fonts) ≤ length e
+
+end-fine : (e : List ℕ) (t : Body) → endEntry e t ≡ Fine → (b : ℕ) × (t ≡ At b)
+end-fine e Nowhere h = let z : _≡_ {A = ℕ} 0 1 = cc in absurd (omega arith)
+end-fine e (At b) h = (b, refl)
+
+pub entry-fine : (e : List ℕ) → judgeEntry e ≡ Fine → Good e
+unfolding judgeEntry
+entry-fine e h =
+    let w = both-fine (judgeFixed e) (judged (inEntry e) nothingMore [] (entryBoxes e) then endEntry e (fontsOf e)) h in
+    let v = both-fine (judged (inEntry e) nothingMore [] (entryBoxes e)) (endEntry e (fontsOf e)) (w .1) in
+    let q = end-fine e (fontsOf e) (v .1) in
+    record { long = fixed-fine e (w .0); fonts = q .0; found = q .1; lie = boxes-fine e (q .0) (v .0) (q .1) }
+
+-- nothing more is judged
+pub then-nothing : (v : Verdict) → v ≡ v then Fine
+then-nothing Fine = refl
+then-nothing (Refused r) = refl
+
+-- wherever the fonts of an entry without fault are found, they lie within it
+pub fonts-lie : (e : List ℕ) (b : ℕ) → judgeEntry e ≡ Fine → fontsOf e ≡ At b → fontAt e b (be 2 e b) ≤ length e
+unfolding judgeEntry
+fonts-lie e b h q =
+    let w = both-fine (judgeFixed e) (judged (inEntry e) nothingMore [] (entryBoxes e) then endEntry e (fontsOf e)) h in
+    boxes-fine e b (both-fine (judged (inEntry e) nothingMore [] (entryBoxes e)) (endEntry e (fontsOf e)) (w .1) .0) q
+
+pub fonts-there : {X : Type 0} (e : List ℕ) (t : Body) → judgeEntry e ≡ Fine → t ≡ fontsOf e → t ≡ Nowhere → X
+fonts-there e t h q n = let f = entry-fine e h .found in let z : _≡_ {A = ℕ} 0 1 = clash (entry-fine e h .fonts) (sym f ∙ sym q ∙ n) in absurd (omega arith)
+  where
+    clash : (b : ℕ) → At b ≡ Nowhere → _≡_ {A = ℕ} 0 1
+    clash b e = cc

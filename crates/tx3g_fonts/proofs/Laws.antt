@@ -1,0 +1,97 @@
+-- Laws of specs/Fonts.antt: fonts follow each other, a found ID stays found, and a content that goes past its body.
+use Prim.Native.Nat.{ℕ, zero, suc, _+_, _-_, _*_, _≤_, _<_}
+use mathlib.Core.Path.{_≡_, refl, ap}
+use mathlib.Core.List.{List}
+use mathlib.Core.Bool.{Bool, true, false}
+use native.Mathlib.Omega.{arith}
+use native.Mathlib.Nat.{add-zero, zero-add, add-suc}
+use native.Mathlib.Numerals.{add-one}
+use lib.Dec.{ltb}
+use borrow.Author.Tests.{eq-eqb, ne-eqb, lt-ltb}
+use Rattle.base.specs.Choice.{one-of}
+use Rattle.verdict.specs.declared.Verdict.the-variants.{Fine}
+use Rattle.verdict.specs.Judgement.{_gives_at_, _then_, each, refuse, both-fine}
+use Rattle.fields.specs.BigEndian.{be}
+use Rattle.bodies.specs.Bodies.{filled}
+use Rattle.bodies.proofs.Filled.{filled-fine}
+use Rattle.tx3g_fonts.specs.Fonts.{afterFont, fontAt, fontId, fontAmong, freshFont, judgeFonts}
+
+module _ (s : List ℕ) (b : ℕ) where
+  -- the first font, and the next
+  pub font-zero : b + 2 ≡ fontAt s b 0
+  unfolding fontAt
+  font-zero = refl
+
+  pub font-more : (k p q : ℕ) → p ≡ fontAt s b k → q ≡ afterFont s p → q ≡ fontAt s b (k + 1)
+  unfolding fontAt
+  font-more k p q e h = rw (add-one, fontAt, ← e) h
+
+  on : (k d : ℕ) → fontAt s b k + d * 3 ≤ fontAt s b (k + d)
+  unfolding fontAt afterFont
+  on k zero = rw (add-zero k) (omega arith)
+  on k (suc d) = rw (add-suc, fontAt) (omega (arith, on k d))
+
+  pub fonts-up : (k m : ℕ) → k < m → fontAt s b k + 3 ≤ fontAt s b m
+  fonts-up k m h = let e : m ≡ k + (m - k) = omega arith in rw e (omega (arith, on k (m - k)))
+
+  -- a table begins before it ends
+  pub fonts-from : (m : ℕ) → b + 2 ≤ fontAt s b m
+  fonts-from m = omega (arith, on 0 m, font-zero, ap (fontAt s b) (zero-add m))
+
+  -- the search: an ID that is not font k's, and one that is
+  pub among-zero : (id : ℕ) → fontAmong s b 0 id ≡ false
+  unfolding fontAmong
+  among-zero id = refl
+
+  pub among-more : (k id p : ℕ) → p ≡ fontAt s b k → fontAmong s b k id ≡ false → (be 2 s p ≡ id → ⊥) → fontAmong s b (k + 1) id ≡ false
+  unfolding fontAmong fontId
+  among-more k id p e h n = rw (add-one, fontAmong, h, ← e, ne-eqb (be 2 s p) id n)
+
+  stays : (k d id : ℕ) → fontAmong s b k id ≡ true → fontAmong s b (k + d) id ≡ true
+  unfolding fontAmong
+  stays k zero id h = rw add-zero h
+  stays k (suc d) id h = rw (add-suc, fontAmong, stays k d id h)
+
+  second : (t : Bool) → one-of t true ≡ true
+  second true = refl
+  second false = refl
+
+  pub among-found : (k m id p : ℕ) → k < m → p ≡ fontAt s b k → be 2 s p ≡ id → fontAmong s b m id ≡ true
+  unfolding fontAmong fontId
+  among-found k m id p l e q =
+      let w : fontAmong s b (suc k) id ≡ true = rw (fontAmong, ← e, eq-eqb (be 2 s p) id q) (second (fontAmong s b k id)) in
+      let r : m ≡ suc k + (m - suc k) = omega arith in
+      rw r (stays (suc k) (m - suc k) id w)
+
+  -- a font that goes past the body: bytes are missing
+  pub cut : (place n k m : ℕ) → k < m → n < fontAt s b k + 3 → filled place (fontAt s b m) n ≡ refuse 1 place
+  unfolding filled
+  cut place n k m l h = let w = fonts-up k m l in simp (lt-ltb n (fontAt s b m) (omega arith))
+
+  pub cut-after : (place n k m : ℕ) → k < m → n < fontAt s b (k + 1) → filled place (fontAt s b m) n ≡ refuse 1 place
+  unfolding filled
+  cut-after place n k m l h =
+      let e : m ≡ (k + 1) + (m - (k + 1)) = omega arith in
+      let w : fontAt s b (k + 1) ≤ fontAt s b m = rw e (omega (arith, on (k + 1) (m - (k + 1)))) in
+      simp (lt-ltb n (fontAt s b m) (omega arith))
+
+  -- a table without fault ends where its body ends
+  pub fonts-fine : (place n : ℕ) → judgeFonts s place b n ≡ Fine → fontAt s b (be 2 s b) ≡ n
+  unfolding judgeFonts
+  fonts-fine place n h =
+      filled-fine place (fontAt s b (be 2 s b)) n
+      (both-fine (filled place (fontAt s b (be 2 s b)) n) (ltb 256 (be 2 s b) gives 9 at place then each (freshFont s place b) (be 2 s b)) h .0)
+
+  -- a body that ends before the count does
+  pub cut-short : (place n m : ℕ) → n < b + 2 → refuse 1 place ≡ filled place (fontAt s b m) n
+  unfolding filled
+  cut-short place n m h = let w = fonts-from m in simp (lt-ltb n (fontAt s b m) (omega arith))
+
+  -- the judgement of font k, by the look-up of its ID
+  pub fresh-new : (place k p id : ℕ) (t : Bool) → p ≡ fontAt s b k → id ≡ be 2 s p → t ≡ fontAmong s b k id → t ≡ false → freshFont s place b k ≡ Fine
+  unfolding freshFont fontId
+  fresh-new place k p id t e q h u = rw (← e, ← q, ← h, u)
+
+  pub fresh-old : (place k p id : ℕ) (t : Bool) → p ≡ fontAt s b k → id ≡ be 2 s p → t ≡ fontAmong s b k id → t ≡ true → freshFont s place b k ≡ refuse 8 place
+  unfolding freshFont fontId
+  fresh-old place k p id t e q h u = rw (← e, ← q, ← h, u)

@@ -1,0 +1,70 @@
+-- Laws of specs/Modifiers.antt: for the loop, and that the modifiers handed out are those of the sample.
+use Prim.Native.Nat.{ℕ}
+use mathlib.Core.Path.{_≡_, refl, sym, _∙_}
+use mathlib.Core.List.{List}
+use mathlib.Core.Bool.{true, false}
+use native.Mathlib.Omega.{arith}
+use lib.Dec.{eqb}
+use borrow.Author.Tests.{eq-eqb, ne-eqb, eqb-true, le-ltb}
+use Rattle.base.specs.Choice.{both-right}
+use Rattle.verdict.specs.declared.Refusal.{Refusal}
+use Rattle.verdict.specs.declared.Verdict.{Verdict}
+use Rattle.verdict.specs.declared.Verdict.the-variants.{Fine, Refused}
+use Rattle.boxes.specs.declared.Step.{Step}
+use Rattle.boxes.specs.declared.Step.the-variants.{Box, Refused as Stopped, End as Ended}
+use Rattle.boxes.specs.Boxes.{stepAt, onStep, boxesIn}
+use Rattle.boxes.proofs.Laws.{boxes-at, boxes-box, NoBox}
+use Rattle.bodies.specs.Bodies.{filled}
+use Rattle.bodies.proofs.Filled.{filled-fine}
+use Rattle.tx3g_contents.specs.Kinds.{known}
+use Rattle.tx3g_contents.specs.Contents.{contentEnd}
+use Rattle.tx3g_modifiers.specs.declared.Held.the-variants.{One, End}
+use Rattle.tx3g_modifiers.specs.Modifiers.{whole, modifierOf, nextModifier}
+
+-- a known box is whole if its content fills it
+pub whole-filled : (s : List ℕ) (p k b n : ℕ) (v : Verdict) → known k ≡ true → v ≡ filled p (contentEnd s k b) n → v ≡ Fine → whole s k b n ≡ true
+unfolding whole
+whole-filled s p k b n v h e q = rw (h, eq-eqb (contentEnd s k b) n (filled-fine p (contentEnd s k b) n (sym e ∙ q)))
+
+filled-refused : (p e n : ℕ) (r : Refusal) → filled p e n ≡ Refused r → eqb e n ≡ false
+unfolding filled
+filled-refused p e n r h = ne-eqb e n (λ q. go q h)
+  where
+    go : e ≡ n → filled p e n ≡ Refused r → ⊥
+    go q h =
+        let a : filled p e n ≡ Fine = rw (le-ltb n e (omega arith), le-ltb e n (omega arith)) in
+        let z : _≡_ {A = ℕ} 0 1 = clash (sym a ∙ h) in omega arith
+      where
+        clash : Fine ≡ Refused r → _≡_ {A = ℕ} 0 1
+        clash x = cc
+
+pub whole-not : (s : List ℕ) (p k b n : ℕ) (v : Verdict) (r : Refusal) → known k ≡ true → v ≡ filled p (contentEnd s k b) n → v ≡ Refused r → whole s k b n ≡ false
+unfolding whole
+whole-not s p k b n v r h e q = rw (h, filled-refused p (contentEnd s k b) n r (sym e ∙ q))
+
+pub whole-other : (s : List ℕ) (k b n : ℕ) → known k ≡ false → whole s k b n ≡ false
+unfolding whole
+whole-other s k b n h = rw h
+
+pub whole-end : (s : List ℕ) (k b n : ℕ) → whole s k b n ≡ true → contentEnd s k b ≡ n
+unfolding whole
+whole-end s k b n h = eqb-true (contentEnd s k b) n (both-right (known k) (eqb (contentEnd s k b) n) h)
+
+-- the loop: no further box, a box that is handed out, one that is passed over
+pub next-stop : (s : List ℕ) (at end : ℕ) (t : Step) → stepAt s at end ≡ t → NoBox t → nextModifier s (boxesIn s at end) ≡ End
+unfolding nextModifier
+next-stop s at end t e h = rw (boxes-at s at end, e) (go t h)
+  where
+    go : (u : Step) → NoBox u → nextModifier s (onStep u at (λ n. boxesIn s n end)) ≡ End
+    go (Box k b n) h = absurd h
+    go (Stopped r) h = refl
+    go Ended h = refl
+
+module _ (s : List ℕ) (at end k b n : ℕ) (e : stepAt s at end ≡ Box k b n) where
+  pub next-found : whole s k b n ≡ true → nextModifier s (boxesIn s at end) ≡ One (modifierOf s k b) n
+  unfolding nextModifier
+  next-found q = rw (boxes-box s at end k b n e, nextModifier, q)
+
+  pub next-other : whole s k b n ≡ false → nextModifier s (boxesIn s n end) ≡ nextModifier s (boxesIn s at end)
+  unfolding nextModifier
+  next-other q = rw (boxes-box s at end k b n e, nextModifier, q)

@@ -1,0 +1,68 @@
+-- The modifiers that a sample holds: its modifier boxes from left to right, each by its numbers and where its records and texts stand.
+use Prim.Native.Nat.{ℕ, _+_}
+use mathlib.Core.List.{List, []}
+use mathlib.Core.Bool.{Bool}
+use lib.Dec.{ltb, eqb}
+use lib.ListN.{length}
+use Rattle.base.specs.Choice.{pick, both, keep}
+use Rattle.fields.specs.BigEndian.{be}
+use Rattle.boxes.specs.Boxes.{Boxes, clean, broken, box}
+use Rattle.tx3g_contents.specs.Kinds.{styl, hlit, hclr, krok, href, tbox, blnk, twrp, known}
+use Rattle.tx3g_contents.specs.Contents.{alternativeAt, linkEnd, contentEnd}
+use Rattle.tx3g_sample.specs.Sample.{textEnd}
+use Rattle.tx3g_modifiers.specs.declared.Modifier.{Modifier}
+use Rattle.tx3g_modifiers.specs.declared.Modifier.the-variants.{Styles, Highlight, Blink, Colour, Karaoke, Delay, Link, TextBox, Wrap}
+use Rattle.tx3g_modifiers.specs.declared.Held.{Held}
+use Rattle.tx3g_modifiers.specs.declared.Held.the-variants.{One, End}
+
+-- where the boxes begin; where the byte count is missing there are none
+unfoldable pub boxesFrom : List ℕ → ℕ
+boxesFrom s = pick (ltb (length s) 2) (length s) (textEnd s)
+
+-- a modifier box that its content fills, as each one is in a sample without fault
+unfoldable pub whole : List ℕ → ℕ → ℕ → ℕ → Bool
+whole s k b n = both (known k) (eqb (contentEnd s k b) n)
+
+-- a link: its range, and where its URL and its alternative text stand
+unfoldable pub linkOf : List ℕ → ℕ → Modifier
+linkOf s b = Link (be 2 s b) (be 2 s (b + 2)) (record { from = b + 5; end = alternativeAt s b }) (record { from = alternativeAt s b + 1; end = linkEnd s b })
+
+-- a highlight, blinking, the highlight colour; else a delay
+unfoldable pub plainOf : List ℕ → ℕ → ℕ → Modifier
+plainOf s k b =
+    pick (eqb k hlit) (Highlight (be 2 s b) (be 2 s (b + 2)))
+    (pick (eqb k blnk) (Blink (be 2 s b) (be 2 s (b + 2)))
+    (pick (eqb k hclr) (Colour (be 1 s b) (be 1 s (b + 1)) (be 1 s (b + 2)) (be 1 s (b + 3)))
+    (Delay (be 4 s b))))
+
+-- what a modifier box of kind k says, whose body begins at b
+unfoldable pub modifierOf : List ℕ → ℕ → ℕ → Modifier
+unfolding linkOf plainOf
+modifierOf s k b =
+    pick (eqb k styl) (Styles (be 2 s b) (b + 2))
+    (pick (eqb k krok) (Karaoke (be 4 s b) (be 2 s (b + 4)) (b + 6))
+    (pick (eqb k href) (linkOf s b)
+    (pick (eqb k tbox) (TextBox b)
+    (pick (eqb k twrp) (Wrap (be 1 s b))
+    (plainOf s k b)))))
+
+-- the first modifier among boxes, with the place after it
+unfoldable pub nextModifier : List ℕ → Boxes → Held
+unfolding whole modifierOf
+nextModifier s clean = End
+nextModifier s (broken r) = End
+nextModifier s (box p k b n rest) = pick (whole s k b n) (One (modifierOf s k b) n) (nextModifier s rest)
+
+-- all of them
+unfoldable pub modifiersIn : List ℕ → Boxes → List Modifier
+unfolding whole modifierOf
+modifiersIn s clean = []
+modifiersIn s (broken r) = []
+modifiersIn s (box p k b n rest) = keep (whole s k b n) (modifierOf s k b) (modifiersIn s rest)
+
+-- the boxes of a known kind
+unfoldable pub knownIn : List ℕ → Boxes → List Modifier
+unfolding modifierOf
+knownIn s clean = []
+knownIn s (broken r) = []
+knownIn s (box p k b n rest) = keep (known k) (modifierOf s k b) (knownIn s rest)
