@@ -13,6 +13,26 @@ use Rattle.text.specs.declared.Counted.the-variants.{Characters, Bad}
 use Rattle.wvtt_cues.specs.declared.Held.{Held}
 use Rattle.wvtt_cues.specs.declared.Held.the-variants.{Cue, End}
 use Rattle.times.specs.Times.{back}
+use Rattle.pack.specs.declared.Packed.{Packed}
+use Rattle.pack.specs.declared.Packed.the-variants.{Done, Refused as NotPacked}
+use Rattle.unpack.specs.declared.Unpacked.{Unpacked}
+use Rattle.unpack.specs.declared.Unpacked.the-variants.{Done as Listed, Refused as NotListed}
+use Rattle.tx3g_sample.specs.declared.Reading.{Reading}
+use Rattle.tx3g_sample.specs.declared.Reading.the-variants.{Good, BadEntry, BadSample}
+use Rattle.tx3g_style.specs.declared.Styled.{Styled}
+use Rattle.tx3g_style.specs.declared.Styled.the-variants.{Found, BadEntry as EntryOf, BadSample as SampleOf}
+use Rattle.tx3g_box.specs.declared.Spot.{Spot}
+use Rattle.tx3g_box.specs.declared.Spot.the-variants.{Sample, Entry, Nowhere}
+use Rattle.tx3g_modifiers.specs.declared.Modifier.{Modifier}
+use Rattle.tx3g_modifiers.specs.declared.Modifier.the-variants.{Styles, Highlight, Blink, Colour, Karaoke, Delay, Link, TextBox, Wrap}
+use Rattle.tx3g_modifiers.specs.declared.Held.{Held as Modified}
+use Rattle.tx3g_modifiers.specs.declared.Held.the-variants.{One, End as NoMore}
+use Rattle.captions.specs.declared.CaptionsPacked.{CaptionsPacked}
+use Rattle.captions.specs.declared.CaptionsTx3g.{CaptionsTx3g}
+use Rattle.captions.specs.declared.CaptionsUnpacked.{CaptionsUnpacked}
+use Rattle.captions.specs.declared.CaptionsStyle.{CaptionsStyle}
+use Rattle.captions.specs.declared.CaptionsTextBox.{CaptionsTextBox}
+use Rattle.captions.specs.declared.CaptionsModifier.{CaptionsModifier}
 use Rattle.captions.specs.declared.CaptionsJudgement.{CaptionsJudgement}
 use Rattle.captions.specs.declared.CaptionsCount.{CaptionsCount}
 use Rattle.captions.specs.declared.CaptionsStep.{CaptionsStep}
@@ -66,3 +86,51 @@ flatHeld End =
 -- the time of a tick, 0 where the scale is 0 or the tick is not below 2^48
 unfoldable pub msOf : ℕ → ℕ → ℕ
 msOf scale t = pick (both (ltb 0 scale) (ltb t 281474976710656)) (back scale t) 0
+
+-- what packing answers
+abbrev pub flatPacked : Packed → CaptionsPacked
+flatPacked (Done n t b) = record { number = 0; place = 0; samples = n; tablebytes = t; samplebytes = b }
+flatPacked (NotPacked r) = record { number = r .number; place = r .place; samples = 0; tablebytes = 0; samplebytes = 0 }
+
+-- what unpacking answers
+abbrev pub flatUnpacked : Unpacked → CaptionsUnpacked
+flatUnpacked (Listed n p t) = record { number = 0; place = 0; recordbytes = n; poolbytes = p; t = t }
+flatUnpacked (NotListed r) = record { number = r .number; place = r .place; recordbytes = 0; poolbytes = 0; t = 0 }
+
+-- a `tx3g` sample beside its entry; who is at fault: 1 the entry, 2 the sample, 0 nobody
+abbrev pub flatReading : Reading → CaptionsTx3g
+flatReading (Good n) = record { who = 0; number = 0; place = 0; characters = n }
+flatReading (BadEntry r) = record { who = 1; number = r .number; place = r .place; characters = 0 }
+flatReading (BadSample r) = record { who = 2; number = r .number; place = r .place; characters = 0 }
+
+-- a style
+abbrev pub flatStyled : Styled → CaptionsStyle
+flatStyled (Found s) = record { who = 0; number = 0; place = 0; start = s .start; end = s .end; font = s .font; face = s .face; size = s .size; red = s .red; green = s .green; blue = s .blue; alpha = s .alpha }
+flatStyled (EntryOf r) = record { who = 1; number = r .number; place = r .place; start = 0; end = 0; font = 0; face = 0; size = 0; red = 0; green = 0; blue = 0; alpha = 0 }
+flatStyled (SampleOf r) = record { who = 2; number = r .number; place = r .place; start = 0; end = 0; font = 0; face = 0; size = 0; red = 0; green = 0; blue = 0; alpha = 0 }
+
+-- where the text box in force stands; where nowhere, the reading's refusal
+abbrev pub flatSpot : Spot → Reading → CaptionsTextBox
+flatSpot (Sample b) r = record { who = 0; number = 0; place = 0; insample = true; offset = b }
+flatSpot Entry r = record { who = 0; number = 0; place = 0; insample = false; offset = 26 }
+flatSpot Nowhere r = record { who = (flatReading r) .who; number = (flatReading r) .number; place = (flatReading r) .place; insample = false; offset = 0 }
+
+-- a modifier of a kind, with its numbers and parts
+abbrev pub modifierOf : ℕ → ℕ → ℕ → ℕ → ℕ → ℕ → ℕ → ℕ → ℕ → ℕ → CaptionsModifier
+modifierOf k a b c d f e g h n = record { found = true; kind = k; first = a; second = b; third = c; fourth = d; from = f; end = e; alternativefrom = g; alternativeend = h; next = n }
+
+-- by the type of the box: `styl`, `hlit`, `blnk`, `hclr`, `krok`, `dlay`, `href`, `tbox`, `twrp`
+abbrev pub flatModifier : Modifier → ℕ → CaptionsModifier
+flatModifier (Styles c f) n = modifierOf 0x7374796C c 0 0 0 f 0 0 0 n
+flatModifier (Highlight a b) n = modifierOf 0x686C6974 a b 0 0 0 0 0 0 n
+flatModifier (Blink a b) n = modifierOf 0x626C6E6B a b 0 0 0 0 0 0 n
+flatModifier (Colour a b c d) n = modifierOf 0x68636C72 a b c d 0 0 0 0 n
+flatModifier (Karaoke t c f) n = modifierOf 0x6B726F6B t c 0 0 f 0 0 0 n
+flatModifier (Delay t) n = modifierOf 0x646C6179 t 0 0 0 0 0 0 0 n
+flatModifier (Link a b u v) n = modifierOf 0x68726566 a b 0 0 (u .from) (u .end) (v .from) (v .end) n
+flatModifier (TextBox f) n = modifierOf 0x74626F78 0 0 0 0 f 0 0 0 n
+flatModifier (Wrap w) n = modifierOf 0x74777270 w 0 0 0 0 0 0 0 n
+
+abbrev pub flatModified : Modified → CaptionsModifier
+flatModified (One m n) = flatModifier m n
+flatModified NoMore = record { found = false; kind = 0; first = 0; second = 0; third = 0; fourth = 0; from = 0; end = 0; alternativefrom = 0; alternativeend = 0; next = 0 }

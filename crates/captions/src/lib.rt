@@ -1,6 +1,13 @@
 // The library for C and Rust: every public operation under the prefix `captions_`, answers by value.
 use boxes::Step;
+use pack::Packed;
 use text::Counted;
+use tx3g_box::Spot;
+use tx3g_modifiers::Held as Modified;
+use tx3g_modifiers::Modifier;
+use tx3g_sample::Reading;
+use tx3g_style::Styled;
+use unpack::Unpacked;
 use verdict::Verdict;
 use wvtt_cues::Held;
 ghost use mathlib.Core.Path.{_≡_};
@@ -16,7 +23,16 @@ ghost use Rattle.wvtt_cues.specs.Cues.{nextCue};
 ghost use Rattle.wvtt_entry.specs.Entry.{judgeEntry};
 ghost use Rattle.cues.specs.Records.{judgeList};
 ghost use Rattle.track.specs.Track.{judgeTrack};
-ghost use Rattle.captions.specs.Flat.{flatVerdict, flatCount, flatStep, flatHeld, msOf};
+ghost use Rattle.pack.specs.Packing.{packedTrack, tableBytes, samplesBytes, packedOf, after};
+ghost use Rattle.unpack.specs.Unpacking.{trackCues, unpackOf, outOf};
+ghost use Rattle.unpack_write.specs.Records.{recordsOf, poolOf};
+ghost use Rattle.conform.specs.Conformance.{conformance};
+ghost use Rattle.tx3g_entry.specs.Entry.{judgeEntry as judgeTimedText};
+ghost use Rattle.tx3g_sample.specs.Sample.{readSample};
+ghost use Rattle.tx3g_style.specs.Style.{styleOf};
+ghost use Rattle.tx3g_box.specs.TextBox.{spotOf};
+ghost use Rattle.tx3g_modifiers.specs.Modifiers.{boxesFrom, nextModifier};
+ghost use Rattle.captions.specs.Flat.{flatVerdict, flatCount, flatStep, flatHeld, msOf, flatPacked, flatUnpacked, flatReading, flatStyled, flatSpot, modifierOf, flatModifier, flatModified};
 
 #[repr(C)]
 pub struct CaptionsJudgement {
@@ -51,6 +67,73 @@ pub struct CaptionsCue {
     pub settingsend: usize,
     pub payloadfrom: usize,
     pub payloadend: usize,
+    pub next: usize,
+}
+
+#[repr(C)]
+pub struct CaptionsPacked {
+    pub number: u32,
+    pub place: usize,
+    pub samples: usize,
+    pub tablebytes: usize,
+    pub samplebytes: usize,
+}
+
+#[repr(C)]
+pub struct CaptionsUnpacked {
+    pub number: u32,
+    pub place: usize,
+    pub recordbytes: usize,
+    pub poolbytes: usize,
+    pub t: u32,
+}
+
+#[repr(C)]
+pub struct CaptionsTx3g {
+    pub who: u32,
+    pub number: u32,
+    pub place: usize,
+    pub characters: usize,
+}
+
+#[repr(C)]
+pub struct CaptionsStyle {
+    pub who: u32,
+    pub number: u32,
+    pub place: usize,
+    pub start: u32,
+    pub end: u32,
+    pub font: u32,
+    pub face: u32,
+    pub size: u32,
+    pub red: u32,
+    pub green: u32,
+    pub blue: u32,
+    pub alpha: u32,
+}
+
+#[repr(C)]
+pub struct CaptionsTextBox {
+    pub who: u32,
+    pub number: u32,
+    pub place: usize,
+    pub insample: bool,
+    pub offset: usize,
+}
+
+// A modifier by the type of its box. What its numbers are, and what stands from `from` on, is said at `captions_next_modifier`.
+#[repr(C)]
+pub struct CaptionsModifier {
+    pub found: bool,
+    pub kind: u32,
+    pub first: u32,
+    pub second: u32,
+    pub third: u32,
+    pub fourth: u32,
+    pub from: usize,
+    pub end: usize,
+    pub alternativefrom: usize,
+    pub alternativeend: usize,
     pub next: usize,
 }
 
@@ -141,6 +224,222 @@ fn flat_held(h: Held) -> CaptionsCue
             settingsend: 0,
             payloadfrom: 0,
             payloadend: 0,
+            next: 0,
+        },
+    }
+}
+
+fn flat_packed(p: Packed) -> CaptionsPacked
+    ensures { λ r. ⌜ r ≡ flatPacked p ⌝ }
+{
+    match p {
+        Packed::Done {
+            samples,
+            table,
+            bytes,
+        } => CaptionsPacked {
+            number: 0,
+            place: 0,
+            samples,
+            tablebytes: table,
+            samplebytes: bytes,
+        },
+        Packed::Refused(why) => CaptionsPacked {
+            number: why.number,
+            place: why.place,
+            samples: 0,
+            tablebytes: 0,
+            samplebytes: 0,
+        },
+    }
+}
+
+fn flat_unpacked(u: Unpacked) -> CaptionsUnpacked
+    ensures { λ r. ⌜ r ≡ flatUnpacked u ⌝ }
+{
+    match u {
+        Unpacked::Done { records, pool, t } => CaptionsUnpacked {
+            number: 0,
+            place: 0,
+            recordbytes: records,
+            poolbytes: pool,
+            t,
+        },
+        Unpacked::Refused(why) => CaptionsUnpacked {
+            number: why.number,
+            place: why.place,
+            recordbytes: 0,
+            poolbytes: 0,
+            t: 0,
+        },
+    }
+}
+
+fn flat_reading(r: Reading) -> CaptionsTx3g
+    ensures { λ a. ⌜ a ≡ flatReading r ⌝ }
+{
+    match r {
+        Reading::Good(characters) => CaptionsTx3g {
+            who: 0,
+            number: 0,
+            place: 0,
+            characters,
+        },
+        Reading::BadEntry(why) => CaptionsTx3g {
+            who: 1,
+            number: why.number,
+            place: why.place,
+            characters: 0,
+        },
+        Reading::BadSample(why) => CaptionsTx3g {
+            who: 2,
+            number: why.number,
+            place: why.place,
+            characters: 0,
+        },
+    }
+}
+
+fn flat_styled(s: Styled) -> CaptionsStyle
+    ensures { λ r. ⌜ r ≡ flatStyled s ⌝ }
+{
+    match s {
+        Styled::Found(style) => CaptionsStyle {
+            who: 0,
+            number: 0,
+            place: 0,
+            start: style.start,
+            end: style.end,
+            font: style.font,
+            face: style.face,
+            size: style.size,
+            red: style.red,
+            green: style.green,
+            blue: style.blue,
+            alpha: style.alpha,
+        },
+        Styled::BadEntry(why) => CaptionsStyle {
+            who: 1,
+            number: why.number,
+            place: why.place,
+            start: 0,
+            end: 0,
+            font: 0,
+            face: 0,
+            size: 0,
+            red: 0,
+            green: 0,
+            blue: 0,
+            alpha: 0,
+        },
+        Styled::BadSample(why) => CaptionsStyle {
+            who: 2,
+            number: why.number,
+            place: why.place,
+            start: 0,
+            end: 0,
+            font: 0,
+            face: 0,
+            size: 0,
+            red: 0,
+            green: 0,
+            blue: 0,
+            alpha: 0,
+        },
+    }
+}
+
+// A modifier whose box is of this kind, with its four numbers and two parts.
+fn modifier_of(
+    kind: u32,
+    first: u32,
+    second: u32,
+    third: u32,
+    fourth: u32,
+    from: usize,
+    end: usize,
+    next: usize,
+) -> CaptionsModifier
+    ensures { λ r. ⌜ r ≡ modifierOf kind first second third fourth from end 0 0 next ⌝ }
+{
+    CaptionsModifier {
+        found: true,
+        kind,
+        first,
+        second,
+        third,
+        fourth,
+        from,
+        end,
+        alternativefrom: 0,
+        alternativeend: 0,
+        next,
+    }
+}
+
+fn flat_modifier(m: Modifier, next: usize) -> CaptionsModifier
+    ensures { λ r. ⌜ r ≡ flatModifier m next ⌝ }
+{
+    match m {
+        Modifier::Styles { count, from } => modifier_of(0x7374796C, count, 0, 0, 0, from, 0, next),
+        Modifier::Highlight { start, end } => modifier_of(0x686C6974, start, end, 0, 0, 0, 0, next),
+        Modifier::Blink { start, end } => modifier_of(0x626C6E6B, start, end, 0, 0, 0, 0, next),
+        Modifier::Colour {
+            red,
+            green,
+            blue,
+            alpha,
+        } => modifier_of(0x68636C72, red, green, blue, alpha, 0, 0, next),
+        Modifier::Karaoke { time, count, from } => modifier_of(
+            0x6B726F6B,
+            time,
+            count,
+            0,
+            0,
+            from,
+            0,
+            next,
+        ),
+        Modifier::Delay { time } => modifier_of(0x646C6179, time, 0, 0, 0, 0, 0, next),
+        Modifier::Link {
+            start,
+            end,
+            url,
+            alternative,
+        } => CaptionsModifier {
+            found: true,
+            kind: 0x68726566,
+            first: start,
+            second: end,
+            third: 0,
+            fourth: 0,
+            from: url.from,
+            end: url.end,
+            alternativefrom: alternative.from,
+            alternativeend: alternative.end,
+            next,
+        },
+        Modifier::TextBox { from } => modifier_of(0x74626F78, 0, 0, 0, 0, from, 0, next),
+        Modifier::Wrap { flag } => modifier_of(0x74777270, flag, 0, 0, 0, 0, 0, next),
+    }
+}
+
+fn flat_modified(h: Modified) -> CaptionsModifier
+    ensures { λ r. ⌜ r ≡ flatModified h ⌝ }
+{
+    match h {
+        Modified::One { modifier, next } => flat_modifier(modifier, next),
+        Modified::End => CaptionsModifier {
+            found: false,
+            kind: 0,
+            first: 0,
+            second: 0,
+            third: 0,
+            fourth: 0,
+            from: 0,
+            end: 0,
+            alternativefrom: 0,
+            alternativeend: 0,
             next: 0,
         },
     }
@@ -255,4 +554,128 @@ pub extern "C" fn captions_judge_track(table: &[u8], samples: &[u8]) -> Captions
     ensures { λ r. ⌜ r ≡ flatVerdict (judgeTrack (now (table .entry)) (now (samples .entry))) ⌝ }
 {
     flat_verdict(track::judge_track(table, samples))
+}
+
+// Packs a cue list into a sample table and samples.
+#[no_mangle]
+pub extern "C" fn captions_pack(
+    scale: u32,
+    t: u32,
+    records: &[u8],
+    pool: &[u8],
+    table: &mut [u8],
+    samples: &mut [u8],
+) -> CaptionsPacked
+    ensures { λ r. ⌜ r ≡ flatPacked (packedOf scale t (now (records .entry)) (now (pool .entry)) (length (now (table .entry))) (length (now (samples .entry)))) ⌝ }
+    ensures { λ r. ⌜ now (table .exit) ≡ after (packedOf scale t (now (records .entry)) (now (pool .entry)) (length (now (table .entry))) (length (now (samples .entry)))) (tableBytes (packedTrack scale t (now (records .entry)) (now (pool .entry)))) (now (table .entry)) ⌝ }
+    ensures { λ r. ⌜ now (samples .exit) ≡ after (packedOf scale t (now (records .entry)) (now (pool .entry)) (length (now (table .entry))) (length (now (samples .entry)))) (samplesBytes (packedTrack scale t (now (records .entry)) (now (pool .entry)))) (now (samples .entry)) ⌝ }
+{
+    let p = pack::pack(scale, t, records, pool, &mut *table, &mut *samples);
+    flat_packed(p)
+}
+
+// Unpacks a track into records and their pool.
+#[no_mangle]
+pub extern "C" fn captions_unpack(
+    scale: u32,
+    table: &[u8],
+    samples: &[u8],
+    records: &mut [u8],
+    pool: &mut [u8],
+) -> CaptionsUnpacked
+    ensures { λ r. ⌜ r ≡ flatUnpacked (unpackOf scale (now (table .entry)) (now (samples .entry)) (length (now (records .entry))) (length (now (pool .entry)))) ⌝ }
+    ensures { λ r. ⌜ now (records .exit) ≡ outOf (unpackOf scale (now (table .entry)) (now (samples .entry)) (length (now (records .entry))) (length (now (pool .entry)))) (recordsOf scale (trackCues (now (table .entry)) (now (samples .entry)))) (now (records .entry)) ⌝ }
+    ensures { λ r. ⌜ now (pool .exit) ≡ outOf (unpackOf scale (now (table .entry)) (now (samples .entry)) (length (now (records .entry))) (length (now (pool .entry)))) (poolOf (trackCues (now (table .entry)) (now (samples .entry)))) (now (pool .entry)) ⌝ }
+{
+    let u = unpack::unpack(scale, table, samples, &mut *records, &mut *pool);
+    flat_unpacked(u)
+}
+
+// Checks a track against a cue list.
+#[no_mangle]
+pub extern "C" fn captions_check(
+    scale: u32,
+    t: u32,
+    records: &[u8],
+    pool: &[u8],
+    table: &[u8],
+    samples: &[u8],
+) -> CaptionsJudgement
+    ensures { λ r. ⌜ r ≡ flatVerdict (conformance scale t (now (records .entry)) (now (pool .entry)) (now (table .entry)) (now (samples .entry))) ⌝ }
+{
+    flat_verdict(conform::check_track(scale, t, records, pool, table, samples))
+}
+
+#[no_mangle]
+pub extern "C" fn captions_judge_tx3g_entry(entry: &[u8]) -> CaptionsJudgement
+    ensures { λ r. ⌜ r ≡ flatVerdict (judgeTimedText (now (entry .entry))) ⌝ }
+{
+    flat_verdict(tx3g_entry::judge_entry(entry))
+}
+
+// A sample beside its entry: the character count, or whose fault it is (1 the entry's, 2 the sample's).
+#[no_mangle]
+pub extern "C" fn captions_judge_tx3g_sample(entry: &[u8], sample: &[u8]) -> CaptionsTx3g
+    ensures { λ r. ⌜ r ≡ flatReading (readSample (now (entry .entry)) (now (sample .entry))) ⌝ }
+{
+    flat_reading(tx3g_sample::read_sample(entry, sample))
+}
+
+// The style of character k.
+#[no_mangle]
+pub extern "C" fn captions_style(entry: &[u8], sample: &[u8], k: usize) -> CaptionsStyle
+    ensures { λ r. ⌜ r ≡ flatStyled (styleOf (now (entry .entry)) (now (sample .entry)) k) ⌝ }
+{
+    flat_styled(tx3g_style::style_at(entry, sample, k))
+}
+
+// Where the eight bytes of the text box in force stand; a refusal is asked of the reading.
+#[no_mangle]
+pub extern "C" fn captions_text_box(entry: &[u8], sample: &[u8]) -> CaptionsTextBox
+    ensures { λ r. ⌜ r ≡ flatSpot (spotOf (now (entry .entry)) (now (sample .entry))) (readSample (now (entry .entry)) (now (sample .entry))) ⌝ }
+{
+    let p = tx3g_box::find_box(entry, sample);
+    match p {
+        Spot::Sample(at) => CaptionsTextBox {
+            who: 0,
+            number: 0,
+            place: 0,
+            insample: true,
+            offset: at,
+        },
+        Spot::Entry => CaptionsTextBox {
+            who: 0,
+            number: 0,
+            place: 0,
+            insample: false,
+            offset: 26,
+        },
+        Spot::Nowhere => {
+            let why = flat_reading(tx3g_sample::read_sample(entry, sample));
+            CaptionsTextBox {
+                who: why.who,
+                number: why.number,
+                place: why.place,
+                insample: false,
+                offset: 0,
+            }
+        }
+    }
+}
+
+// Where the modifier boxes of a sample begin.
+#[no_mangle]
+pub extern "C" fn captions_modifiers_from(sample: &[u8]) -> usize
+    ensures { λ r. ⌜ r ≡ boxesFrom (now (sample .entry)) ⌝ }
+{
+    tx3g_modifiers::skip_text(sample)
+}
+
+// The first modifier from `from` on, where a box begins. By its kind: `styl` count and the styles from `from` on; `hlit`, `blnk` start and end;
+// `hclr` red, green, blue, alpha; `krok` start time, count and the entries; `dlay` time; `href` start, end, URL and alternative text; `tbox` the box; `twrp` the flag.
+#[no_mangle]
+pub extern "C" fn captions_next_modifier(sample: &[u8], from: usize) -> CaptionsModifier
+    ensures { λ r. ⌜ r ≡ flatModified (nextModifier (now (sample .entry)) (boxesIn (now (sample .entry)) from (length (now (sample .entry))))) ⌝ }
+{
+    flat_modified(tx3g_modifiers::next_modifier(sample, from))
 }

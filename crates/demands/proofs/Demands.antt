@@ -33,7 +33,7 @@ packing-is scale T records pool fine =
       readable = packed-readable scale T records pool fine;
       read = reads-back scale T records pool fine;
       right = packed-is-right scale T records pool fine;
-      few = samples-most scale T records pool fine
+      few = samples-most scale T records pool fine;
     }
 
 -- demand 3: a track that is right conforms
@@ -53,7 +53,7 @@ conforms-right scale T records pool table samples w =
     record {
       positive = λ x m. let v = mem-listed (sampleOf table samples) (rowCount table) x m in lasting table samples x (v .0) (v .2) (w .positive (v .0) (v .1));
       sums = w .sums;
-      holds = w .holds
+      holds = w .holds;
     }
 
 pub honest-passes : HonestPasses
@@ -73,5 +73,8 @@ pub fewest-samples : FewestSamples
 unfolding packedTrack
 fewest-samples scale T records pool table samples fine e =
     let w = accepts-exactly scale T records pool table samples fine .0 e in
-    omega (arith, length-track table samples,
-    fewest (cuesOf scale records pool) (tick scale T) (trackOf table samples) (fine-proper scale T records pool fine) (conforms-right scale T records pool table samples w))
+    omega (
+      arith,
+      length-track table samples,
+      fewest (cuesOf scale records pool) (tick scale T) (trackOf table samples) (fine-proper scale T records pool fine) (conforms-right scale T records pool table samples w),
+    )

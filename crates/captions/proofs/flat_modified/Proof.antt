@@ -1,0 +1,14 @@
+-- `captions::flat_modified` meets its contract: case by case.
+use borrow.Author.Needs.{needs}
+use Rattle.captions.proofs.flat_modified.Statement.{statement}
+use Rattle.captions.proofs.flat_modified.Tie as tie
+
+returns : tie.Need-returns
+returns c = rw (c .before .before .h .given .1) (c .flat-modifier .ensures)
+
+returns-2 : tie.Need-returns-2
+returns-2 c = rw (c .enum-told .given .1)
+
+pub flat-modified-spec : {M : Type 1} → statement M
+flat-modified-spec =
+    tie.close (tie.spec (λ c. search needs) (λ c κs. search needs) (λ c. search needs) returns returns-2)

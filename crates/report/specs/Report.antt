@@ -1,0 +1,31 @@
+-- What the program prints.
+use Prim.Native.Nat.{ℕ}
+use mathlib.Core.List.{List}
+use mathlib.Core.Bool.{Bool}
+use lib.Dec.{leb}
+use lib.ListN.{length}
+use Rattle.base.specs.Choice.{pick, both}
+use Rattle.listing.specs.Listing.{rowsText, refusalText}
+use Rattle.input.specs.declared.Line.{Line}
+use Rattle.input.specs.declared.Line.the-variants.{Numbers, Bad}
+use Rattle.pack.specs.declared.Packed.{Packed}
+use Rattle.pack.specs.declared.Packed.the-variants.{Done, Refused}
+use Rattle.pack.specs.Packing.{packedTrack, tableBytes, packedOf}
+
+-- the lines of a packed table, or of a refusal
+abbrev pub packedText : Packed → List ℕ → List ℕ
+packedText (Done n t b) table = rowsText table n
+packedText (Refused r) table = refusalText (r .number) (r .place)
+
+-- packing, with room for 2,049 samples and 65,536 bytes of them
+unfoldable pub listText : ℕ → ℕ → List ℕ → List ℕ → List ℕ
+listText scale T recs pool = packedText (packedOf scale T recs pool 16392 65536) (tableBytes (packedTrack scale T recs pool))
+
+-- both files were read, and neither is longer than 32 KiB
+unfoldable pub usable : Bool → List ℕ → List ℕ → Bool
+usable found recs pool = both found (both (leb (length recs) 32768) (leb (length pool) 32768))
+
+-- a bad line (10), a file missing or too long (9), else packing's answer
+unfoldable pub answerText : Line → Bool → List ℕ → List ℕ → List ℕ
+answerText Bad found recs pool = refusalText 10 0
+answerText (Numbers scale T) found recs pool = pick (usable found recs pool) (listText scale T recs pool) (refusalText 9 0)

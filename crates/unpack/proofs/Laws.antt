@@ -1,0 +1,213 @@
+-- Laws for unpacking: the rows are ready, the last judgements, and the answer stage by stage.
+use Prim.Native.Nat.{ℕ, zero, suc, _+_, _-_, _*_, _≤_, _<_}
+use mathlib.Core.Path.{_≡_, refl, sym, ap, ap₂, _∙_, subst}
+use mathlib.Core.Logic.{_≢_}
+use mathlib.Core.Bool.{Bool, true, false, not}
+use mathlib.Core.Option.{Option, none, some}
+use mathlib.Core.List.{List, [], _∷_, List·Memᴰ}
+use native.Mathlib.Omega.{arith}
+use native.Mathlib.Nat.{le-refl}
+use lib.Dec.{leb, ltb}
+use lib.ListN.{length, getD}
+use borrow.Author.Tests.{ltb-false, leb-false, not-false}
+use Rattle.base.specs.Choice.{one-of, pick, by-test}
+use Rattle.verdict.specs.declared.Refusal.{Refusal}
+use Rattle.verdict.specs.declared.Verdict.{Verdict}
+use Rattle.verdict.specs.declared.Verdict.the-variants.{Fine, Refused}
+use Rattle.verdict.specs.Judgement.{fault, refuse, _gives_at_, _then_, each, both-fine, not-given, each-fine}
+use Rattle.times.specs.Times.{back, scaleAllowed, timelineAllowed, Limits}
+use Rattle.times.specs.Laws.{timeline-limits, scale-limits}
+use Rattle.timeline.specs.Cues.{Body, Cue}
+use Rattle.timeline.specs.Tracks.{Sample, Positive, total}
+use Rattle.timeline.specs.Unpacking.{noCue, stopped, done, unpack}
+use Rattle.timeline.proofs.Listing.{mem-listed}
+use Rattle.timeline.proofs.Indexed.{index-mem}
+use Rattle.timeline.proofs.Taking.{unpack-right}
+use Rattle.wvtt.specs.Sound.{Sound, AllSound}
+use Rattle.wvtt_cues.specs.Cues.{sampleCues}
+use Rattle.wvtt_cues.proofs.Sound.{sample-sound}
+use Rattle.track.specs.Track.{rowCount, durationOf, sampleOf, trackOf, judgeTrack}
+use Rattle.track.proofs.Laws.{fine-readable}
+use Rattle.rows.specs.declared.Row.{Row}
+use Rattle.rows.specs.Table.{rowAt, bodyAt, cueAt, known, Placed, Good}
+use Rattle.rows.proofs.Laws.{length-known, known-at}
+use Rattle.unpack_write.specs.Records.{recordsTo, poolTo, recordsOf, poolOf}
+use Rattle.unpack_write.specs.Rows.{Short, Ready, InTime, sizeTo}
+use Rattle.unpack_write.proofs.Laws.{LengthsOf, lengths-of, length-records, length-pool}
+use Rattle.unpack.specs.declared.Unpacked.{Unpacked}
+use Rattle.unpack.specs.declared.Unpacked.the-variants.{Done, Refused as Stopped}
+use Rattle.unpack.specs.Unpacking.{stopsAt, listIn, trackCues, trackMs, badTimes, judgeTimes, judgeEnd, judgeUnpack, answerBy, doneWith, unpackOf}
+use Rattle.unpack.specs.Rows.{rowTimes, endOf}
+use Rattle.unpack.proofs.Kept.{EachCue, EachBody, unpack-keeps}
+
+-- ---- the cues of a track without fault are sound
+
+all-sound : (ys : List Body) → AllSound ys → EachBody Sound ys
+unfolding AllSound EachBody
+all-sound [] h = tt
+all-sound (y ∷ ys) h = (h .0, all-sound ys (h .1))
+
+cue-start : (samples : List ℕ) (r : Row) → cueAt samples r .start ≡ r .start
+unfolding cueAt
+cue-start samples r = refl
+
+cue-end : (samples : List ℕ) (r : Row) → cueAt samples r .end ≡ r .end
+unfolding cueAt
+cue-end samples r = refl
+
+-- a row whose cue is sound is ready to be written
+row-ready : (samples : List ℕ) (r : Row) → Placed (length samples) r → Sound (cueAt samples r .body) → LengthsOf (bodyAt samples true r) r
+    → r .start < 281474976710656 → r .end < 281474976710656 → Ready (length samples) r
+unfolding cueAt bodyAt
+row-ready samples r p y w a b = record {
+  short = record {
+    identifier-order = p .identifier .order;
+    identifier-most = omega (arith, w .identifier, y .identifier-most, p .identifier .order);
+    settings-order = p .settings .order;
+    settings-most = omega (arith, w .settings, y .settings-most, p .settings .order);
+    payload-order = p .payload .order;
+    payload-most = omega (arith, w .payload, y .payload-most, p .payload .order);
+  };
+  placed = p;
+  id-below = y .id-below (r .id) refl;
+  start-below = a;
+  end-below = b;
+}
+
+module _ (table samples : List ℕ) (fine : judgeTrack table samples ≡ Fine) where
+  pub track-positive : Positive (trackOf table samples)
+  unfolding trackOf sampleOf
+  track-positive s m =
+      let w = mem-listed (sampleOf table samples) (rowCount table) s m in
+      omega (arith, ap (λ (x : Sample). x .duration) (w .2), fine-readable table samples fine .1 (w .0) (w .1))
+
+  track-sound : (s : Sample) → List·Memᴰ s (trackOf table samples) → EachBody Sound (s .held)
+  unfolding trackOf sampleOf
+  track-sound s m =
+      let w = mem-listed (sampleOf table samples) (rowCount table) s m in
+      subst (λ (x : Sample). EachBody Sound (x .held)) (sym (w .2)) (all-sound _ (sample-sound _ (fine-readable table samples fine .0 .reads (w .0) (w .1))))
+
+  pub list-sound : (cs : List Cue) → unpack (trackOf table samples) ≡ done cs → EachCue Sound cs
+  list-sound cs e = unpack-keeps Sound (trackOf table samples) cs track-sound e
+
+  -- the rows of the list are ready to be written
+  pub rows-ready : (tab : List ℕ) (n : ℕ) → Good (length samples) tab n → done (known samples tab n) ≡ unpack (trackOf table samples)
+      → total (trackOf table samples) < 281474976710656 → (i : ℕ) → i < n → Ready (length samples) (rowAt tab i)
+  rows-ready tab n g e t i h =
+      let cs = known samples tab n in
+      let l : i < length cs = omega (arith, length-known samples tab n) in
+      let here = known-at samples tab n i h in
+      let list = unpack-right (trackOf table samples) cs track-positive (sym e) in
+      let m = index-mem cs i noCue l in
+      let lasts = list .proper .lasts (getD cs i noCue) m in
+      let ends = list .proper .ends (getD cs i noCue) m in
+      let y = subst (λ (c : Cue). Sound (c .body)) here (list-sound cs (sym e) i l) in
+      let w = lengths-of samples (rowAt tab i) (g .placed i h) in
+      let start = ap (λ (c : Cue). c .start) here ∙ cue-start samples (rowAt tab i) in
+      let end = ap (λ (c : Cue). c .end) here ∙ cue-end samples (rowAt tab i) in
+      row-ready samples (rowAt tab i) (g .placed i h) y w (omega (arith, start, end, lasts, ends)) (omega (arith, end, ends))
+
+-- ---- the last judgements
+
+pub ms-above : (scale m : ℕ) → 359999999 < m → timelineAllowed scale m ≡ false
+ms-above scale m h = by-test (timelineAllowed scale m) (λ e. absurd (omega (arith, h, timeline-limits scale m e .time-most))) (λ e. e)
+
+each-same : (f g : ℕ → Verdict) (n : ℕ) → ((i : ℕ) → i < n → f i ≡ g i) → each f n ≡ each g n
+unfolding each
+each-same f g zero h = refl
+each-same f g (suc n) h = rw (each-same f g n (λ i l. h i (omega arith)), h n (omega arith))
+
+module _ (samples tab : List ℕ) (n : ℕ) where
+  pub times-same : (scale : ℕ) → each (rowTimes scale tab) n ≡ each (judgeTimes scale (known samples tab n)) n
+  unfolding rowTimes judgeTimes cueAt
+  times-same scale = each-same (rowTimes scale tab) (judgeTimes scale (known samples tab n)) n
+      (λ i l. ap (λ (c : Cue). badTimes scale (c .start) (c .end) gives 10 at i) (sym (known-at samples tab n i l)))
+
+  pub records-length : (scale : ℕ) → length (recordsOf scale (known samples tab n)) ≡ n * 24
+  unfolding recordsOf
+  records-length scale = length-records scale (known samples tab n) (length (known samples tab n)) ∙ ap (λ (k : ℕ). k * 24) (length-known samples tab n)
+
+  pub records-whole : (scale : ℕ) → recordsTo scale (known samples tab n) n ≡ recordsOf scale (known samples tab n)
+  unfolding recordsOf
+  records-whole scale = ap (recordsTo scale (known samples tab n)) (sym (length-known samples tab n))
+
+  pub pool-whole : poolTo (known samples tab n) n ≡ poolOf (known samples tab n)
+  unfolding poolOf
+  pool-whole = ap (poolTo (known samples tab n)) (sym (length-known samples tab n))
+
+  module _ (p : (i : ℕ) → i < n → Placed (length samples) (rowAt tab i)) where
+    pub pool-length : length (poolOf (known samples tab n)) ≡ sizeTo tab n
+    pool-length = ap length (sym pool-whole) ∙ length-pool samples tab n p n (le-refl n)
+
+    -- said of the rows, and of the cues
+    pub end-same : (scale T records pool : ℕ) → endOf scale tab n T records pool ≡ judgeEnd scale T (known samples tab n) records pool
+    unfolding endOf judgeEnd
+    end-same scale T records pool =
+        rw (length-known samples tab n, records-length scale, pool-length, times-same scale)
+
+-- what it says where it finds no fault
+pub record Ended (scale : ℕ) (tab : List ℕ) (n T records pool : ℕ) : Type 0 where
+  pub in-time : (i : ℕ) → i < n → InTime scale (rowAt tab i)
+  pub limits : Limits scale T
+  pub records-room : n * 24 ≤ records
+  pub pool-room : sizeTo tab n ≤ pool
+
+neither : (a b : Bool) → one-of a b ≡ false → (a ≡ false) × (b ≡ false)
+neither true b e = let z : _≡_ {A = ℕ} 0 1 = cc in absurd (omega arith)
+neither false b e = (refl, e)
+
+pub end-fine : (scale : ℕ) (tab : List ℕ) (n T records pool : ℕ) → endOf scale tab n T records pool ≡ Fine → Ended scale tab n T records pool
+unfolding endOf rowTimes badTimes
+end-fine scale tab n T records pool e =
+    let a = both-fine (each (rowTimes scale tab) n) _ e in
+    let b = both-fine (not (timelineAllowed scale T) gives 10 at n) _ (a .1) in
+    let c = both-fine (ltb records (n * 24) gives 15 at 0) (ltb pool (sizeTo tab n) gives 15 at 1) (b .1) in
+    record {
+      in-time = λ i l.
+          let t = not-given (badTimes scale (rowAt tab i .start) (rowAt tab i .end)) 10 i (each-fine (rowTimes scale tab) n i (a .0) l) in
+          let x = neither (ltb 359999999 (back scale (rowAt tab i .start))) _ t in
+          let y = neither (ltb 359999999 (back scale (rowAt tab i .end))) (leb (back scale (rowAt tab i .end)) (back scale (rowAt tab i .start))) (x .1) in
+          (ltb-false 359999999 (back scale (rowAt tab i .start)) (x .0), ltb-false 359999999 (back scale (rowAt tab i .end)) (y .0));
+      limits = timeline-limits scale T (not-false (timelineAllowed scale T) (not-given (not (timelineAllowed scale T)) 10 n (b .0)));
+      records-room = ltb-false records (n * 24) (not-given (ltb records (n * 24)) 15 0 (c .0));
+      pool-room = ltb-false pool (sizeTo tab n) (not-given (ltb pool (sizeTo tab n)) 15 1 (c .1));
+    }
+
+-- ---- the answer, stage by stage
+
+module _ (scale : ℕ) (table samples : List ℕ) (records pool : ℕ) where
+  pub scale-refused : scaleAllowed scale ≡ false → Stopped (fault 10 0) ≡ unpackOf scale table samples records pool
+  unfolding unpackOf judgeUnpack
+  scale-refused e = rw e
+
+  module _ (ok : scaleAllowed scale ≡ true) where
+    pub track-refused : (r : Refusal) → judgeTrack table samples ≡ Refused r → Stopped r ≡ unpackOf scale table samples records pool
+    unfolding unpackOf judgeUnpack
+    track-refused r e = rw (ok, e)
+
+    module _ (fine : judgeTrack table samples ≡ Fine) where
+      pub list-stopped : (m i : ℕ) → stopped m i ≡ unpack (trackOf table samples) → Stopped (fault m i) ≡ unpackOf scale table samples records pool
+      unfolding unpackOf judgeUnpack
+      list-stopped m i e = rw (ok, fine, ← e)
+
+      pub list-done : (cs : List Cue) → done cs ≡ unpack (trackOf table samples)
+          → answerBy (judgeEnd scale (trackMs scale table samples) cs records pool) (doneWith scale (trackMs scale table samples) cs) ≡ unpackOf scale table samples records pool
+      unfolding unpackOf judgeUnpack trackCues
+      list-done cs e = rw (ok, fine, ← e)
+
+pub cues-done : (table samples : List ℕ) (cs : List Cue) → done cs ≡ unpack (trackOf table samples) → cs ≡ trackCues table samples
+unfolding trackCues
+cues-done table samples cs e = rw (← e)
+
+-- ---- the loop over the rows' times
+
+module _ (scale : ℕ) (tab : List ℕ) (i : ℕ) (r : Row) (b : Bool) (e : r ≡ rowAt tab i) (q : b ≡ badTimes scale (r .start) (r .end)) where
+  row-times : rowTimes scale tab i ≡ b gives 10 at i
+  unfolding rowTimes
+  row-times = ap (λ (x : Row). badTimes scale (x .start) (x .end) gives 10 at i) (sym e) ∙ ap (λ (x : Bool). x gives 10 at i) (sym q)
+
+  pub times-bad : b ≡ true → rowTimes scale tab i ≡ refuse 10 i
+  times-bad h = row-times ∙ rw h
+
+  pub times-good : b ≡ false → rowTimes scale tab i ≡ Fine
+  times-good h = row-times ∙ rw h

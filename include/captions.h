@@ -1,0 +1,176 @@
+/* WebVTT (wvtt) and 3GPP text (tx3g) samples and sample entries, cue lists and tracks.
+ *
+ * Bytes are lent as a pointer, which is not null even where the length is 0, and a length. An output overlaps nothing else that is lent.
+ * Every refusal gives a number and a place and writes nothing; on success bytes past the result keep their content. What an answer
+ * leaves free is 0. Nothing is allocated, and nothing is kept after a call. */
+#ifndef CAPTIONS_H
+#define CAPTIONS_H
+
+#include <stdbool.h>
+#include <stddef.h>
+#include <stdint.h>
+
+#ifdef __cplusplus
+extern "C" {
+#endif
+
+/* The numbers given back. */
+enum {
+    CAPTIONS_DONE = 0,
+    CAPTIONS_BYTES_MISSING = 1, /* header, body, record, texts past the pool, sample past the bytes */
+    CAPTIONS_BAD_SIZE = 2,      /* box size below 8, body longer than its kind, bytes left over, another entry type */
+    CAPTIONS_KIND_TWICE = 3,
+    CAPTIONS_BOX_MISSING = 4,   /* payl, vttC, ftab or every cue; a sample of size 0 */
+    CAPTIONS_NOT_ALONE = 5,     /* vtte beside vttc, or a second vtte */
+    CAPTIONS_BAD_TEXT = 6,
+    CAPTIONS_BAD_RANGE = 7,     /* range, box or style order; k past the text */
+    CAPTIONS_BAD_VALUE = 8,     /* ID, font, justification, wrap, reserved bytes */
+    CAPTIONS_PAST_LIMIT = 9,
+    CAPTIONS_BAD_TIME = 10,     /* scale, timeline or time; zero duration */
+    CAPTIONS_BAD_ORDER = 11,    /* starts fall; cues in a sample not in order of first appearance */
+    CAPTIONS_ID_TWICE = 12,     /* in a list or a sample */
+    CAPTIONS_ID_AFTER_GAP = 13,
+    CAPTIONS_OTHER_TEXTS = 14,  /* one ID, other texts */
+    CAPTIONS_NO_ROOM = 15,      /* output too short for the whole result */
+    CAPTIONS_DIFFERS = 16,      /* the track differs */
+    CAPTIONS_NO_ID = 17         /* a cue without ID, in unpacking */
+};
+
+/* The place is a byte of a sample or an entry, or the index of a record or a sample. */
+typedef struct CaptionsJudgement {
+    uint32_t number;
+    size_t place;
+} CaptionsJudgement;
+
+typedef struct CaptionsCount {
+    uint32_t number;
+    size_t characters;
+} CaptionsCount;
+
+/* A box, a refusal, or at the end neither: number 0 and nothing found. */
+typedef struct CaptionsStep {
+    uint32_t number;
+    size_t place;
+    bool found;
+    uint32_t kind; /* the type's four bytes, big-endian */
+    size_t body;   /* where the body begins */
+    size_t next;   /* where it ends and the next box begins */
+} CaptionsStep;
+
+/* A cue's texts go from a byte of the sample to before another; a text that is not there is empty. */
+typedef struct CaptionsCue {
+    bool found;
+    bool named; /* whether it has an ID */
+    uint32_t id;
+    size_t identifierfrom;
+    size_t identifierend;
+    size_t settingsfrom;
+    size_t settingsend;
+    size_t payloadfrom;
+    size_t payloadend;
+    size_t next; /* from where to look for the next cue */
+} CaptionsCue;
+
+/* Text: UTF-8; an identifier or settings; a payload; a vttC body; a vlab body. Lengths are not judged. */
+bool captions_is_utf8(const uint8_t *text, size_t text_len);
+bool captions_is_identifier(const uint8_t *text, size_t text_len);
+bool captions_is_payload(const uint8_t *text, size_t text_len);
+bool captions_is_configuration(const uint8_t *text, size_t text_len);
+bool captions_is_label(const uint8_t *text, size_t text_len);
+
+/* The characters of a tx3g text, UTF-8 or UTF-16 after FE FF; 6 for bad text. */
+CaptionsCount captions_count_characters(const uint8_t *text, size_t text_len);
+
+/* The box at `at` in a container that ends with the bytes. */
+CaptionsStep captions_step(const uint8_t *bytes, size_t bytes_len, size_t at);
+
+/* The tick of ms rounded down; the ms of a tick rounded up, 0 for scale 0 or a tick of 2^48 or more. */
+uint64_t captions_tick(uint32_t scale, uint32_t ms);
+uint64_t captions_ms(uint32_t scale, uint64_t tick);
+
+/* A WebVTT sample; and its first cue from `from` on: 0, or the `next` of the cue before. */
+CaptionsJudgement captions_judge_sample(const uint8_t *sample, size_t sample_len);
+CaptionsCue captions_next_cue(const uint8_t *sample, size_t sample_len, size_t from);
+
+CaptionsJudgement captions_judge_wvtt_entry(const uint8_t *entry, size_t entry_len);
+
+/* A cue list: 24-byte records, and the pool of their texts, on a timeline of t ms. */
+CaptionsJudgement captions_judge_list(uint32_t scale, uint32_t t, const uint8_t *records, size_t records_len, const uint8_t *pool,
+                                      size_t pool_len);
+
+/* A track: 8-byte table records, and the samples back to back. */
+CaptionsJudgement captions_judge_track(const uint8_t *table, size_t table_len, const uint8_t *samples, size_t samples_len);
+
+typedef struct CaptionsPacked {
+    uint32_t number;
+    size_t place;
+    size_t samples; /* the number of samples */
+    size_t tablebytes;
+    size_t samplebytes;
+} CaptionsPacked;
+
+/* Packs a cue list into a table and samples; last 15, place 0 for the table and 1 for the samples. */
+CaptionsPacked captions_pack(uint32_t scale, uint32_t t, const uint8_t *records, size_t records_len, const uint8_t *pool, size_t pool_len,
+                             uint8_t *table, size_t table_len, uint8_t *samples, size_t samples_len);
+
+typedef struct CaptionsUnpacked {
+    uint32_t number;
+    size_t place;
+    size_t recordbytes;
+    size_t poolbytes;
+    uint32_t t; /* in ms */
+} CaptionsUnpacked;
+
+/* Unpacks a track into a cue list; last 15, place 0 for the records and 1 for the pool. */
+CaptionsUnpacked captions_unpack(uint32_t scale, const uint8_t *table, size_t table_len, const uint8_t *samples, size_t samples_len,
+                                 uint8_t *records, size_t records_len, uint8_t *pool, size_t pool_len);
+
+/* Whether a track shows the list's cues at every tick: 16 with the first wrong sample, or the sample count where it ends early. */
+CaptionsJudgement captions_check(uint32_t scale, uint32_t t, const uint8_t *records, size_t records_len, const uint8_t *pool,
+                                 size_t pool_len, const uint8_t *table, size_t table_len, const uint8_t *samples, size_t samples_len);
+
+/* Who is at fault. */
+enum { CAPTIONS_NOBODY = 0, CAPTIONS_ENTRY = 1, CAPTIONS_SAMPLE = 2 };
+
+typedef struct CaptionsTx3g {
+    uint32_t who;
+    uint32_t number;
+    size_t place;
+    size_t characters;
+} CaptionsTx3g;
+
+typedef struct CaptionsStyle {
+    uint32_t who;
+    uint32_t number;
+    size_t place;
+    uint32_t start;
+    uint32_t end;
+    uint32_t font;
+    uint32_t face;
+    uint32_t size;
+    uint32_t red;
+    uint32_t green;
+    uint32_t blue;
+    uint32_t alpha;
+} CaptionsStyle;
+
+/* The eight bytes stand at the offset of the sample or else of the entry. */
+typedef struct CaptionsTextBox {
+    uint32_t who;
+    uint32_t number;
+    size_t place;
+    bool insample;
+    size_t offset;
+} CaptionsTextBox;
+
+/* The entry is judged first, then the sample, then k (7, the sample's, place 0). */
+CaptionsJudgement captions_judge_tx3g_entry(const uint8_t *entry, size_t entry_len);
+CaptionsTx3g captions_judge_tx3g_sample(const uint8_t *entry, size_t entry_len, const uint8_t *sample, size_t sample_len);
+CaptionsStyle captions_style(const uint8_t *entry, size_t entry_len, const uint8_t *sample, size_t sample_len, size_t k);
+CaptionsTextBox captions_text_box(const uint8_t *entry, size_t entry_len, const uint8_t *sample, size_t sample_len);
+
+#ifdef __cplusplus
+}
+#endif
+
+#endif

@@ -1,0 +1,121 @@
+//! Why something is refused.
+
+use std::error::Error;
+use std::fmt::{self, Display};
+
+/// The numbers given back, 1 to 17.
+#[repr(u32)]
+#[derive(Clone, Copy, Debug, PartialEq, Eq, PartialOrd, Ord, Hash)]
+pub enum Reason {
+    /// Bytes missing: header, body, record, texts past the pool, sample past the bytes.
+    BytesMissing = 1,
+    /// A box size below 8, a body longer than its kind, bytes left over, another entry type.
+    BadSize = 2,
+    /// A kind twice.
+    KindTwice = 3,
+    /// `payl`, `vttC`, `ftab` or every cue missing; a sample of size 0.
+    BoxMissing = 4,
+    /// `vtte` beside `vttc`, or a second `vtte`.
+    NotAlone = 5,
+    /// Bad text.
+    BadText = 6,
+    /// A bad range, box or style order; a character past the text.
+    BadRange = 7,
+    /// A value not allowed: ID, font, justification, wrap, reserved bytes.
+    BadValue = 8,
+    /// A limit passed.
+    PastLimit = 9,
+    /// Scale, timeline or time not allowed; zero duration.
+    BadTime = 10,
+    /// Starts fall; cues in a sample not in order of first appearance.
+    BadOrder = 11,
+    /// An ID twice in a list or a sample.
+    IdTwice = 12,
+    /// An ID comes back after a gap.
+    IdAfterGap = 13,
+    /// One ID, other texts.
+    OtherTexts = 14,
+    /// An output too short for the whole result.
+    NoRoom = 15,
+    /// The track differs.
+    Differs = 16,
+    /// A cue without ID, in unpacking.
+    NoId = 17,
+}
+
+use Reason::*;
+
+/// The reasons by number, from 1 on, with their meaning.
+const REASONS: [(Reason, &str); 17] = [
+    (BytesMissing, "bytes missing"),
+    (BadSize, "a size that does not fit, or another entry type"),
+    (KindTwice, "a kind twice"),
+    (BoxMissing, "a box or every cue missing"),
+    (NotAlone, "vtte beside another"),
+    (BadText, "bad text"),
+    (BadRange, "bad range or order"),
+    (BadValue, "a value not allowed"),
+    (PastLimit, "a limit passed"),
+    (BadTime, "scale, timeline or time not allowed"),
+    (BadOrder, "starts fall, or cues out of order"),
+    (IdTwice, "an ID twice"),
+    (IdAfterGap, "an ID after a gap"),
+    (OtherTexts, "one ID, other texts"),
+    (NoRoom, "output too short"),
+    (Differs, "the track differs"),
+    (NoId, "a cue without ID"),
+];
+
+impl Reason {
+    pub fn number(self) -> u32 {
+        self as u32
+    }
+
+    /// The reason of a number other than 0. The library gives none above 17.
+    pub(crate) fn of(number: u32) -> Self {
+        REASONS[number as usize - 1].0
+    }
+}
+
+impl Display for Reason {
+    fn fmt(&self, f: &mut fmt::Formatter) -> fmt::Result {
+        f.write_str(REASONS[*self as usize - 1].1)
+    }
+}
+
+/// Why something was refused, and where: a byte, or the index of a record or a sample.
+#[derive(Clone, Copy, Debug, PartialEq, Eq)]
+pub struct Refusal {
+    pub reason: Reason,
+    pub place: usize,
+}
+
+/// Nothing for 0, else the refusal.
+pub(crate) fn judged(number: u32, place: usize) -> Result<(), Refusal> {
+    if number == 0 {
+        return Ok(());
+    }
+    let reason = Reason::of(number);
+    Err(Refusal { reason, place })
+}
+
+impl Display for Refusal {
+    fn fmt(&self, f: &mut fmt::Formatter) -> fmt::Result {
+        let Refusal { reason, place } = self;
+        write!(f, "refused {} {place}: {reason}", reason.number())
+    }
+}
+
+impl Error for Refusal {}
+
+#[cfg(test)]
+mod tests {
+    use super::*;
+
+    #[test]
+    fn reasons_stand_at_their_numbers() {
+        for (index, (reason, _)) in REASONS.into_iter().enumerate() {
+            assert_eq!(reason.number() as usize, index + 1);
+        }
+    }
+}

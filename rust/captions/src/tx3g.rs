@@ -1,0 +1,123 @@
+//! 3GPP text.
+
+use std::error::Error;
+use std::fmt::{self, Display};
+
+use crate::refusal::judged;
+use crate::{ffi, Reason, Refusal};
+
+/// What is at fault, or where something stands.
+#[derive(Clone, Copy, Debug, PartialEq, Eq)]
+pub enum Who {
+    Entry,
+    Sample,
+}
+
+/// A refusal of an entry and a sample read together.
+#[derive(Clone, Copy, Debug, PartialEq, Eq)]
+pub struct Tx3gRefusal {
+    pub who: Who,
+    pub reason: Reason,
+    pub place: usize,
+}
+
+impl Display for Tx3gRefusal {
+    fn fmt(&self, f: &mut fmt::Formatter) -> fmt::Result {
+        let Tx3gRefusal { who, reason, place } = self;
+        let who = match who {
+            Who::Entry => "entry",
+            Who::Sample => "sample",
+        };
+        write!(f, "{who} refused {} {place}: {reason}", reason.number())
+    }
+}
+
+impl Error for Tx3gRefusal {}
+
+fn both_judged(who: u32, number: u32, place: usize) -> Result<(), Tx3gRefusal> {
+    let who = if who == 1 { Who::Entry } else { Who::Sample };
+    let fault = |Refusal { reason, place }| Tx3gRefusal { who, reason, place };
+    judged(number, place).map_err(fault)
+}
+
+/// Judges a `tx3g` sample entry. Refused: 1 to 4, 7 to 9; the place is a byte of the entry.
+pub fn judge_entry(entry: &[u8]) -> Result<(), Refusal> {
+    // SAFETY: pointer and length of a slice.
+    let answer = unsafe { ffi::captions_judge_tx3g_entry(entry.as_ptr(), entry.len()) };
+    judged(answer.number, answer.place)
+}
+
+/// Judges an entry, then a sample; gives the sample's character count.
+/// Refused: 1 to 4, 6 to 9; the place is a byte of the one at fault.
+pub fn judge_sample(entry: &[u8], sample: &[u8]) -> Result<usize, Tx3gRefusal> {
+    // SAFETY: pointers and lengths of slices.
+    let answer = unsafe {
+        ffi::captions_judge_tx3g_sample(entry.as_ptr(), entry.len(), sample.as_ptr(), sample.len())
+    };
+    both_judged(answer.who, answer.number, answer.place)?;
+    Ok(answer.characters)
+}
+
+/// The style of a range of characters.
+#[derive(Clone, Copy, Debug, PartialEq, Eq)]
+pub struct Style {
+    pub start: u16,
+    pub end: u16,
+    pub font: u16,
+    pub face: u8,
+    pub size: u8,
+    /// Red, green, blue, alpha.
+    pub colour: [u8; 4],
+}
+
+/// The style of character `k`: the `styl` record it lies in, else the entry's default.
+/// Refused: as [`judge_sample`], then 7 for a `k` past the text, the sample's, place 0.
+pub fn style(entry: &[u8], sample: &[u8], k: usize) -> Result<Style, Tx3gRefusal> {
+    // SAFETY: pointers and lengths of slices.
+    let style = unsafe {
+        ffi::captions_style(
+            entry.as_ptr(),
+            entry.len(),
+            sample.as_ptr(),
+            sample.len(),
+            k,
+        )
+    };
+    both_judged(style.who, style.number, style.place)?;
+    // Each field is one or two bytes of the record.
+    Ok(Style {
+        start: style.start as u16,
+        end: style.end as u16,
+        font: style.font as u16,
+        face: style.face as u8,
+        size: style.size as u8,
+        colour: [style.red, style.green, style.blue, style.alpha].map(|part| part as u8),
+    })
+}
+
+/// The text box in force.
+#[derive(Clone, Copy, Debug, PartialEq, Eq)]
+pub struct TextBox<'a> {
+    /// Where it stands, and from which byte on.
+    pub who: Who,
+    pub offset: usize,
+    /// Its eight bytes: top, left, bottom, right, each signed and big-endian.
+    pub bytes: &'a [u8],
+}
+
+/// The text box in force: the sample's, else the entry's. Refused: as [`judge_sample`].
+pub fn text_box<'a>(entry: &'a [u8], sample: &'a [u8]) -> Result<TextBox<'a>, Tx3gRefusal> {
+    // SAFETY: pointers and lengths of slices.
+    let found = unsafe {
+        ffi::captions_text_box(entry.as_ptr(), entry.len(), sample.as_ptr(), sample.len())
+    };
+    both_judged(found.who, found.number, found.place)?;
+    let (who, whole) = if found.insample {
+        (Who::Sample, sample)
+    } else {
+        (Who::Entry, entry)
+    };
+    let offset = found.offset;
+    let bytes = &whole[offset..offset + 8];
+    Ok(TextBox { who, offset, bytes })
+}
