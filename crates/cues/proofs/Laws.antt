@@ -1,12 +1,14 @@
 -- Laws for the functions: the parts that are judged, and what the two loops over IDs show.
 use Prim.Native.Nat.{ℕ, zero, suc, _+_, _-_, _≤_, _<_}
-use mathlib.Core.Path.{_≡_, refl, sym, ap, _∙_}
+use mathlib.Core.Path.{_≡_, refl, sym, ap, _∙_, subst}
 use mathlib.Core.Bool.{true, false}
 use mathlib.Core.List.{List}
 use native.Mathlib.Omega.{arith}
+use native.Mathlib.Nat.{add-zero}
 use lib.Dec.{eqb, ltb}
 use lib.ListN.{length, take, drop}
 use borrow.Author.Tests.{eq-eqb, ne-eqb, ltb-false}
+use Rattle.base.specs.Choice.{either}
 use Rattle.base.specs.First.{first-none, first-some}
 use Rattle.verdict.specs.declared.Verdict.the-variants.{Fine}
 use Rattle.verdict.specs.Judgement.{refuse}
@@ -66,3 +68,31 @@ one-twice recs n i j x y l m p q e f d =
     let same : eqb (sourceId recs j) (sourceId recs i) ≡ true = eq-eqb (sourceId recs j) (sourceId recs i) (sym p ∙ e ∙ q) in
     let stood : stoodEarlier recs i ≡ true = ap found (first-some (λ k. eqb (sourceId recs k) (sourceId recs i)) i j m same f) in
     sym (ap twiceAt (first-some (stoodEarlier recs) n i l stood d))
+
+-- IDs that rise from each record to the next are below all later ones
+abbrev pub Rising : List ℕ → ℕ → Type 0
+Rising recs n = (k : ℕ) → suc k < n → sourceId recs k < sourceId recs (suc k)
+
+pub rising-more : (recs : List ℕ) (i : ℕ) → 0 < i → Rising recs i → sourceId recs (i - 1) < sourceId recs i → Rising recs (i + 1)
+rising-more recs zero h r l = λ k b. absurd (omega arith)
+rising-more recs (suc i) h r l = λ k b.
+    either (suc (suc k)) (suc i) (λ q. r k q)
+    (λ q. let e : k ≡ i = omega arith in let p : suc i - 1 ≡ i = omega arith in subst (λ (x : ℕ). sourceId recs x < sourceId recs (suc x)) (sym e) (rw p at l))
+
+rising-far : (recs : List ℕ) (n : ℕ) → Rising recs n → (d j : ℕ) → suc (j + d) < n → sourceId recs j < sourceId recs (suc (j + d))
+rising-far recs n r zero j b = rw add-zero (r j (rw add-zero at b))
+rising-far recs n r (suc d) j b =
+    let e : j + suc d ≡ suc (j + d) = omega arith in
+    rw e (omega (arith, rising-far recs n r d j (omega arith), r (suc (j + d)) (omega arith)))
+
+pub rising-less : (recs : List ℕ) (n : ℕ) → Rising recs n → (j i : ℕ) → j < i → i < n → sourceId recs j < sourceId recs i
+rising-less recs n r j i l b =
+    let e : i ≡ suc (j + (i - suc j)) = omega arith in
+    rw e (rising-far recs n r (i - suc j) j (omega arith))
+
+pub rising-fine : (recs : List ℕ) (n : ℕ) → Rising recs n → judgeIds recs n ≡ Fine
+unfolding judgeIds stoodEarlier
+rising-fine recs n r =
+    ap twiceAt (first-none (stoodEarlier recs) n
+    (λ i b. ap found (first-none (λ k. eqb (sourceId recs k) (sourceId recs i)) i
+    (λ j a. ne-eqb (sourceId recs j) (sourceId recs i) (λ e. omega (arith, rising-less recs n r j i a b))))))

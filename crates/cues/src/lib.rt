@@ -8,8 +8,10 @@ use times::timeline_allowed;
 use verdict::Verdict;
 use verdict::refused;
 ghost use mathlib.Core.Path.{_≡_};
+ghost use mathlib.Core.Bool.{true};
 ghost use Prim.Native.Nat.{_+_, _*_, _≤_, _<_};
 ghost use lib.ListN.{length};
+ghost use Rattle.verdict.specs.declared.Verdict.the-variants.{Fine};
 ghost use Rattle.verdict.specs.Judgement.{each};
 ghost use Rattle.cues.specs.Records.{sourceId, startMs, endMs, textOffset, identifierLength, settingsLength, payloadLength, reserved};
 ghost use Rattle.cues.specs.Records.{settingsOffset, payloadOffset, textsEnd};
@@ -230,6 +232,32 @@ fn first_twice(records: &[u8], n: usize) -> Verdict
     Verdict::Fine
 }
 
+// Whether each ID is above the one before it, as in most lists: then none stands twice.
+fn ids_rise(records: &[u8], n: usize) -> bool
+    requires { ⌜ n * 24 ≤ length (now records) ⌝ }
+    ensures { λ r. ⌜ (r ≡ true → judgeIds (now (records .entry)) n ≡ Fine) ⌝ }
+{
+    let mut i = 1;
+    while i < n {
+        if source_id(records, i) <= source_id(records, i - 1) {
+            return false;
+        }
+        i += 1;
+    }
+    true
+}
+
+// 12, where an ID stands twice.
+fn judge_ids(records: &[u8], n: usize) -> Verdict
+    requires { ⌜ n * 24 ≤ length (now records) ⌝ }
+    ensures { λ r. ⌜ r ≡ judgeIds (now (records .entry)) n ⌝ }
+{
+    if ids_rise(records, n) {
+        return Verdict::Fine;
+    }
+    first_twice(records, n)
+}
+
 pub fn judge_list(scale: u32, t: u32, records: &[u8], pool: &[u8]) -> Verdict
     ensures { λ r. ⌜ r ≡ judgeList scale t (now (records .entry)) (now (pool .entry)) ⌝ }
 {
@@ -247,5 +275,5 @@ pub fn judge_list(scale: u32, t: u32, records: &[u8], pool: &[u8]) -> Verdict
     let Verdict::Fine = v else {
         return v;
     };
-    first_twice(records, n)
+    judge_ids(records, n)
 }

@@ -1,5 +1,5 @@
 -- Proofs of the demands from the laws of the crates below.
-use Prim.Native.Nat.{ℕ, _<_, _≤_}
+use Prim.Native.Nat.{ℕ, _/_, _<_, _≤_}
 use mathlib.Core.Path.{_≡_, refl, sym, ap, _∙_, subst}
 use mathlib.Core.List.{List}
 use native.Mathlib.Omega.{arith}
@@ -15,10 +15,16 @@ use Rattle.cues.specs.List.{cuesOf}
 use Rattle.cues.proofs.Sound.{fine-proper}
 use Rattle.track.specs.Track.{rowCount, durationOf, sampleOf, trackOf, Readable}
 use Rattle.pack.specs.Packing.{packedTrack, tableBytes, samplesBytes}
-use Rattle.pack.proofs.Track.{packed-is-right, samples-most, reads-back, packed-readable}
-use Rattle.conform.specs.Conformance.{conformance, Conforms}
-use Rattle.conform.proofs.Exactly.{accepts-exactly}
+use Rattle.pack.proofs.Track.{packed-is-right, samples-most, reads-back, packed-readable, packed-fine}
+use Rattle.conform.specs.Conformance.{conformance, Conforms, AcceptsExactly, DiffersExactly}
+use Rattle.conform.proofs.Exactly.{accepts-exactly, differs-exactly}
+use Rattle.unpack_write.specs.Records.{recordsOf, poolOf}
+use Rattle.unpack.specs.declared.Unpacked.{Unpacked}
+use Rattle.unpack.specs.declared.Unpacked.the-variants.{Done}
+use Rattle.unpack.specs.Unpacking.{unpackOf, trackCues}
+use Rattle.unpack_laws.proofs.Theorems.{success, unpacked-fine, check-accepts, comes-back, same-record, same-length}
 use Rattle.demands.specs.Packing.{Packs, PackingIs}
+use Rattle.demands.specs.Unpacking.{SameCues, ComesBack, UnpackedIsFine, UnpackedPasses}
 use Rattle.demands.specs.Checking.{HonestPasses, OwnPasses, FewestSamples}
 
 length-track : (table samples : List ℕ) → length (trackOf table samples) ≡ rowCount table
@@ -78,3 +84,45 @@ fewest-samples scale T records pool table samples fine e =
       length-track table samples,
       fewest (cuesOf scale records pool) (tick scale T) (trackOf table samples) (fine-proper scale T records pool fine) (conforms-right scale T records pool table samples w),
     )
+
+-- demand 3 word for word, and the exact place of 16
+pub check-exactly : AcceptsExactly
+check-exactly = accepts-exactly
+
+pub place-exactly : DiffersExactly
+place-exactly = differs-exactly
+
+same-cues : (scale T : ℕ) (records pool : List ℕ) → judgeList scale T records pool ≡ Fine → 1000 ≤ scale
+    → SameCues records pool (recordsOf scale (cuesOf scale records pool)) (poolOf (cuesOf scale records pool))
+unfolding count
+same-cues scale T records pool fine large =
+    let r = same-record scale T records pool fine large in
+    record {
+      many = ap (λ (k : ℕ). k / 24) (same-length scale T records pool fine large);
+      id = λ i l. r i l .id;
+      start = λ i l. r i l .start;
+      end = λ i l. r i l .end;
+      identifier = λ i l. r i l .identifier;
+      settings = λ i l. r i l .settings;
+      payload = λ i l. r i l .payload
+    }
+
+-- demand 2's way back: what unpacking lists is the packed list
+pub comes-back-same : ComesBack
+comes-back-same scale T records pool a b fine large ra rb =
+    let t = tableBytes (packedTrack scale T records pool) in
+    let s = samplesBytes (packedTrack scale T records pool) in
+    let cs = cuesOf scale records pool in
+    let w = comes-back scale T records pool fine large t s (length records) (length (poolOf cs)) (packed-fine scale T records pool fine) (reads-back scale T records pool fine) (omega arith) (omega arith) in
+    let rb′ : length (poolOf cs) ≤ b = rw (w .1) at rb in
+    let v = comes-back scale T records pool fine large t s a b (packed-fine scale T records pool fine) (reads-back scale T records pool fine) ra rb′ in
+    let n : length (recordsOf scale cs) ≡ length records = same-length scale T records pool fine large in
+    rw (w .1) (v .0 ∙ ap (λ (k : ℕ). Done k (length (poolOf cs)) T) (sym n), same-cues scale T records pool fine large)
+
+pub unpacked-is-fine : UnpackedIsFine
+unpacked-is-fine scale table samples a b n p T e = unpacked-fine scale table samples a b n p T e
+
+pub unpacked-passes : UnpackedPasses
+unfolding conformance
+unpacked-passes scale table samples a b n p T e small =
+    rw (unpacked-fine scale table samples a b n p T e, success scale table samples a b n p T e .fine, check-accepts scale table samples a b n p T e small)

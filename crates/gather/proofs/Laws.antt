@@ -3,18 +3,18 @@ use Prim.Native.Nat.{ℕ, zero, suc, _+_, _*_, _≤_, _<_}
 use mathlib.Core.Path.{_≡_, refl, sym, ap, _∙_, subst}
 use mathlib.Core.Logic.{_≢_}
 use mathlib.Core.Bool.{Bool, true, false}
-use mathlib.Core.Option.{none, some}
+use mathlib.Core.Option.{some}
 use mathlib.Core.List.{List, [], _∷_, _++_}
 use native.Mathlib.Omega.{arith}
 use native.Mathlib.Numerals.{add-one}
 use lib.Dec.{eqb, ltb, leb}
-use lib.ListN.{length, getD, set}
+use lib.ListN.{length, set}
 use borrow.Author.Tests.{eq-eqb, lt-ltb, le-ltb, eqb-true, eqb-false}
-use Rattle.base.specs.Choice.{pick, both, either, by-test}
+use Rattle.base.specs.Choice.{pick, either, by-test}
 use Rattle.base.specs.Over.{wrote}
 use Rattle.timeline.specs.Lists.{listed}
-use Rattle.timeline.specs.Cues.{Body, Cue, sameId, sameBody}
-use Rattle.timeline.specs.Unpacking.{noCue, fresh, till, indexOf, Taking, refused, going, again, onIndex, withId, takeBody}
+use Rattle.timeline.specs.Cues.{Cue, sameId, sameBody}
+use Rattle.timeline.specs.Unpacking.{fresh, till, indexOf, Taking, refused, going, again, onIndex, takeBody}
 use Rattle.rows.specs.declared.Row.{Row}
 use Rattle.rows.specs.Table.{rowAt, numbersOf, bodyAt, cueAt, known, sameTexts, againNumber, Placed, Missing, Good}
 use Rattle.rows.proofs.Laws.{row-written, row-kept, ending, row-ended, row-ended-other, listed-same, listed-set, length-known, known-at, id-missing, id-found}

@@ -1,25 +1,25 @@
 -- The cues of a sample, and the samples of a track.
-use Prim.Native.Nat.{ℕ, zero, suc, _+_, _-_, _*_, _/_, _≤_, _<_}
-use mathlib.Core.Path.{_≡_, refl, sym, ap, ap₂, _∙_, subst}
-use mathlib.Core.List.{List, [], _∷_, _++_}
+use Prim.Native.Nat.{ℕ, suc, _+_, _-_, _≤_, _<_}
+use mathlib.Core.Path.{_≡_, refl, sym, ap, _∙_}
+use mathlib.Core.List.{List, [], _∷_}
 use native.Mathlib.Omega.{arith}
 use native.Mathlib.Numerals.{add-one}
-use lib.ListN.{length, take, drop, drop-of-length-le, length-drop}
+use lib.ListN.{length, drop, drop-of-length-le, length-drop}
 use lib.Seq.{length-take-le}
 use Rattle.verdict.specs.declared.Verdict.the-variants.{Fine}
 use Rattle.boxes.specs.Boxes.{part}
 use Rattle.timeline.specs.Lists.{listed}
 use Rattle.timeline.specs.Cues.{Body, Cue}
-use Rattle.timeline.specs.Tracks.{Sample, total}
-use Rattle.timeline.specs.Unpacking.{Taking, refused, going, takeBody, onTaking, takeAll, Unpacked, stopped, done, onSample, unpackFrom, unpack}
+use Rattle.timeline.specs.Tracks.{total}
+use Rattle.timeline.specs.Unpacking.{Taking, refused, going, takeBody, onTaking, takeAll, stopped, done, onSample, unpackFrom, unpack}
 use Rattle.timeline.proofs.Listing.{length-listed, listed-from}
 use Rattle.timeline.proofs.Holding.{total-snoc}
 use Rattle.wvtt_cues.specs.Cues.{sampleCues}
 use Rattle.wvtt_cues.proofs.Walk.{heldFrom}
 use Rattle.rows.specs.Table.{Good}
 use native.Mathlib.Nat.{not-suc-le-zero}
-use Rattle.track.specs.Track.{rowCount, durationOf, sizeOf, offsetOf, bytesOf, judgeTrack, sampleOf, trackOf}
-use Rattle.track.proofs.Laws.{offset-suc, bytes-at, offset-most, fine-readable}
+use Rattle.track.specs.Track.{rowCount, durationOf, sizeOf, offsetOf, judgeTrack, sampleOf, trackOf}
+use Rattle.track.proofs.Laws.{bytes-at, offset-most, fine-readable}
 
 -- ---- the cues of a sample
 

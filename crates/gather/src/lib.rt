@@ -10,7 +10,7 @@ use track::size_at;
 use wvtt_cues::Held;
 use wvtt_cues::next_cue;
 ghost use mathlib.Core.Path.{_≡_};
-ghost use Prim.Native.Nat.{_+_, _*_, _-_, _/_, _≤_, _<_};
+ghost use Prim.Native.Nat.{_≤_};
 ghost use lib.ListN.{length};
 ghost use Rattle.boxes.specs.Boxes.{part};
 ghost use Rattle.timeline.specs.Unpacking.{takeBody, takeAll, unpack};

@@ -1,30 +1,30 @@
 -- Laws of the table: reading a row that was written, the cues of the rows, the row of an ID.
 use Prim.Native.Nat.{ℕ, zero, suc, _+_, _-_, _*_, _≤_, _<_}
-use mathlib.Core.Path.{_≡_, refl, sym, ap, _∙_, subst}
+use mathlib.Core.Path.{_≡_, refl, sym, ap, _∙_}
 use mathlib.Core.Logic.{_≢_}
-use mathlib.Core.Bool.{Bool, true, false}
+use mathlib.Core.Bool.{true, false}
 use mathlib.Core.Option.{Option, none, some}
 use mathlib.Core.List.{List, [], _∷_, _++_}
 use native.Mathlib.Omega.{arith}
-use native.Mathlib.Nat.{add-zero, add-suc, not-suc-le-zero, le-of-suc-le-suc}
+use native.Mathlib.Nat.{add-zero, not-suc-le-zero, le-of-suc-le-suc}
 use native.Mathlib.Numerals.{add-one}
-use lib.Dec.{eqb, ltb, leb}
-use lib.ListN.{length, take, drop, getD, set, length-append, length-drop, length-take, List·getD-append, length-set}
+use lib.Dec.{eqb}
+use lib.ListN.{length, take, drop, getD, set, length-append, length-drop, List·getD-append, length-set}
 use lib.Seq.{drop-cons, length-take-le, getD-take, getD-drop, getD-append-add, getD-set-same, getD-set-other, ext-getD, drop-drop, take-take, take-nil}
-use borrow.Author.Tests.{eq-eqb, ne-eqb, lt-ltb, le-ltb, le-leb, lt-leb, eqb-true, eqb-false}
-use Rattle.base.specs.Choice.{pick, both, either, by-test, sameList, same-list, list-same, true-false}
-use Rattle.base.specs.Over.{wrote, length-wrote}
+use borrow.Author.Tests.{eq-eqb, ne-eqb, eqb-true, eqb-false}
+use Rattle.base.specs.Choice.{both, either, by-test, sameList, same-list, list-same}
+use Rattle.base.specs.Over.{wrote}
 use Rattle.boxes.specs.Boxes.{part}
 use Rattle.timeline.specs.Lists.{listed}
-use Rattle.timeline.specs.Cues.{Body, Cue, sameId, sameBody}
-use Rattle.timeline.specs.Unpacking.{noCue, fresh, till, orNext, indexOf, Taking, refused, going, again}
+use Rattle.timeline.specs.Cues.{Cue, sameId}
+use Rattle.timeline.specs.Unpacking.{noCue, indexOf}
 use Rattle.timeline.proofs.Listing.{length-listed, listed-at}
 use Rattle.wvtt_cues.specs.declared.Part.{Part}
 use Rattle.wvtt_cues.specs.declared.Parts.{Parts}
 use Rattle.wvtt_cues.specs.Cues.{textOf, heldBy}
 use Rattle.wvtt_cues.proofs.Walk.{Within, Inside}
 use Rattle.rows.specs.declared.Row.{Row}
-use Rattle.rows.specs.Table.{rowAt, numbersOf, moved, newRow, bodyAt, cueAt, known, sameTexts, againNumber, Placed, Missing, Good}
+use Rattle.rows.specs.Table.{rowAt, numbersOf, moved, newRow, bodyAt, cueAt, known, Placed, Missing, Good}
 
 -- ---- reading what was written
 

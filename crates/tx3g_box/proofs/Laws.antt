@@ -4,7 +4,7 @@ use mathlib.Core.Path.{_≡_, refl, ap, _∙_}
 use mathlib.Core.List.{List}
 use native.Mathlib.Omega.{arith}
 use native.Mathlib.Nat.{add-sub-cancel-left}
-use lib.ListN.{length, take, drop}
+use lib.ListN.{length, take, drop, length-take, length-drop}
 use Rattle.bodies.specs.declared.Body.{Body}
 use Rattle.bodies.specs.declared.Body.the-variants.{At, Nowhere as NoBody}
 use Rattle.tx3g_contents.specs.Kinds.{tbox, single, known}
@@ -15,7 +15,7 @@ use Rattle.tx3g_sample.specs.declared.Reading.the-variants.{Good, BadEntry, Bad
 use Rattle.tx3g_sample.specs.Sample.{readSample}
 use Rattle.tx3g_sample.proofs.Laws.{read-good, content-lies}
 use Rattle.tx3g_box.specs.declared.Spot.the-variants.{Sample, Entry}
-use Rattle.tx3g_box.specs.TextBox.{boxesOf, spotIn, spotBy, spotOf}
+use Rattle.tx3g_box.specs.TextBox.{boxesOf, spotIn, spotBy, spotOf, bytesAt}
 
 body-lies : (e s : List ℕ) (n b : ℕ) → readSample e s ≡ Good n → boxesOf s ≡ At b → b + 8 ≤ length s
 unfolding boxesOf known single
@@ -46,3 +46,12 @@ entry-fits e s h = go (readSample e s) refl h
 -- the part from b to b + 8
 pub eight : (s : List ℕ) (b : ℕ) → take (b + 8 - b) (drop b s) ≡ take 8 (drop b s)
 eight s b = ap (λ (k : ℕ). take k (drop b s)) (add-sub-cancel-left b 8)
+
+-- the box of a sample without fault has eight bytes
+pub box-long : (e s : List ℕ) (n : ℕ) → readSample e s ≡ Good n → length (bytesAt e s (spotOf e s)) ≡ 8
+unfolding spotOf
+box-long e s n h = rw h (go (boxesOf s) refl)
+  where
+    go : (t : Body) → boxesOf s ≡ t → length (bytesAt e s (spotIn t)) ≡ 8
+    go (At b) q = let w = body-lies e s n b h q in rw (length-take 8 (drop b s), length-drop b s) (omega arith)
+    go NoBody q = let w = entry-fine e (read-good e s n h .entry) .long in rw (length-take 8 (drop 26 e), length-drop 26 e) (omega arith)

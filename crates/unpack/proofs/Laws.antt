@@ -1,22 +1,20 @@
 -- Laws for unpacking: the rows are ready, the last judgements, and the answer stage by stage.
-use Prim.Native.Nat.{ℕ, zero, suc, _+_, _-_, _*_, _≤_, _<_}
-use mathlib.Core.Path.{_≡_, refl, sym, ap, ap₂, _∙_, subst}
-use mathlib.Core.Logic.{_≢_}
+use Prim.Native.Nat.{ℕ, zero, suc, _*_, _≤_, _<_}
+use mathlib.Core.Path.{_≡_, refl, sym, ap, _∙_, subst}
 use mathlib.Core.Bool.{Bool, true, false, not}
-use mathlib.Core.Option.{Option, none, some}
 use mathlib.Core.List.{List, [], _∷_, List·Memᴰ}
 use native.Mathlib.Omega.{arith}
 use native.Mathlib.Nat.{le-refl}
 use lib.Dec.{leb, ltb}
 use lib.ListN.{length, getD}
-use borrow.Author.Tests.{ltb-false, leb-false, not-false}
-use Rattle.base.specs.Choice.{one-of, pick, by-test}
+use borrow.Author.Tests.{ltb-false, not-false}
+use Rattle.base.specs.Choice.{one-of, by-test}
 use Rattle.verdict.specs.declared.Refusal.{Refusal}
 use Rattle.verdict.specs.declared.Verdict.{Verdict}
 use Rattle.verdict.specs.declared.Verdict.the-variants.{Fine, Refused}
-use Rattle.verdict.specs.Judgement.{fault, refuse, _gives_at_, _then_, each, both-fine, not-given, each-fine}
+use Rattle.verdict.specs.Judgement.{fault, refuse, _gives_at_, each, both-fine, not-given, each-fine}
 use Rattle.times.specs.Times.{back, scaleAllowed, timelineAllowed, Limits}
-use Rattle.times.specs.Laws.{timeline-limits, scale-limits}
+use Rattle.times.specs.Laws.{timeline-limits}
 use Rattle.timeline.specs.Cues.{Body, Cue}
 use Rattle.timeline.specs.Tracks.{Sample, Positive, total}
 use Rattle.timeline.specs.Unpacking.{noCue, stopped, done, unpack}
@@ -24,19 +22,17 @@ use Rattle.timeline.proofs.Listing.{mem-listed}
 use Rattle.timeline.proofs.Indexed.{index-mem}
 use Rattle.timeline.proofs.Taking.{unpack-right}
 use Rattle.wvtt.specs.Sound.{Sound, AllSound}
-use Rattle.wvtt_cues.specs.Cues.{sampleCues}
 use Rattle.wvtt_cues.proofs.Sound.{sample-sound}
-use Rattle.track.specs.Track.{rowCount, durationOf, sampleOf, trackOf, judgeTrack}
+use Rattle.track.specs.Track.{rowCount, sampleOf, trackOf, judgeTrack}
 use Rattle.track.proofs.Laws.{fine-readable}
 use Rattle.rows.specs.declared.Row.{Row}
 use Rattle.rows.specs.Table.{rowAt, bodyAt, cueAt, known, Placed, Good}
 use Rattle.rows.proofs.Laws.{length-known, known-at}
 use Rattle.unpack_write.specs.Records.{recordsTo, poolTo, recordsOf, poolOf}
-use Rattle.unpack_write.specs.Rows.{Short, Ready, InTime, sizeTo}
+use Rattle.unpack_write.specs.Rows.{Ready, InTime, sizeTo}
 use Rattle.unpack_write.proofs.Laws.{LengthsOf, lengths-of, length-records, length-pool}
-use Rattle.unpack.specs.declared.Unpacked.{Unpacked}
-use Rattle.unpack.specs.declared.Unpacked.the-variants.{Done, Refused as Stopped}
-use Rattle.unpack.specs.Unpacking.{stopsAt, listIn, trackCues, trackMs, badTimes, judgeTimes, judgeEnd, judgeUnpack, answerBy, doneWith, unpackOf}
+use Rattle.unpack.specs.declared.Unpacked.the-variants.{Refused as Stopped}
+use Rattle.unpack.specs.Unpacking.{trackCues, trackMs, badTimes, judgeTimes, judgeEnd, judgeUnpack, answerBy, doneWith, unpackOf}
 use Rattle.unpack.specs.Rows.{rowTimes, endOf}
 use Rattle.unpack.proofs.Kept.{EachCue, EachBody, unpack-keeps}
 

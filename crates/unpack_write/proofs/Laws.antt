@@ -2,19 +2,16 @@
 use Prim.Native.Nat.{ℕ, zero, suc, _+_, _-_, _*_, _≤_, _<_}
 use mathlib.Core.Path.{_≡_, refl, sym, ap, ap₂, _∙_}
 use mathlib.Core.Bool.{true}
-use mathlib.Core.List.{List, [], _∷_, _++_, append-assoc}
+use mathlib.Core.List.{List, [], _++_}
 use native.Mathlib.Omega.{arith}
 use native.Mathlib.Nat.{le-refl}
 use native.Mathlib.Numerals.{add-one}
 use native.Mathlib.Decide.{le-ind}
-use lib.ListN.{length, drop, getD, length-append}
-use lib.Seq.{length-take-le}
+use lib.ListN.{length, length-append}
 use Rattle.base.specs.Over.{over, wrote, over-wrote, wrote-more, length-wrote}
 use Rattle.fields.specs.BigEndian.{bytes, length-bytes}
 use Rattle.boxes.specs.Boxes.{part}
-use Rattle.times.specs.Times.{back}
 use Rattle.timeline.specs.Cues.{Body, Cue}
-use Rattle.timeline.specs.Unpacking.{noCue}
 use Rattle.wvtt_cues.specs.declared.Part.{Part}
 use Rattle.wvtt_cues.specs.Cues.{textOf}
 use Rattle.wvtt_cues.proofs.Walk.{Within}
@@ -22,8 +19,8 @@ use Rattle.wvtt_write.proofs.Laws.{length-part, in-three}
 use Rattle.rows.specs.declared.Row.{Row}
 use Rattle.rows.specs.Table.{rowAt, bodyAt, cueAt, known, Placed}
 use Rattle.rows.proofs.Laws.{known-at}
-use Rattle.unpack_write.specs.Records.{recordBytes, idOf, recordOf, textsOf, poolTo, recordsTo}
-use Rattle.unpack_write.specs.Rows.{Short, Ready, rowRecord, rowSize, sizeTo}
+use Rattle.unpack_write.specs.Records.{recordBytes, recordOf, textsOf, poolTo, recordsTo}
+use Rattle.unpack_write.specs.Rows.{Short, rowRecord, rowSize, sizeTo}
 
 -- ---- sizes
 

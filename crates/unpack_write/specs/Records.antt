@@ -1,7 +1,7 @@
 -- Cue records and their pool, as unpacking writes them. Document 01, 'Cue records'.
 use Prim.Native.Nat.{ℕ, zero, suc}
 use mathlib.Core.Option.{Option, none, some}
-use mathlib.Core.List.{List, [], _∷_, _++_}
+use mathlib.Core.List.{List, [], _++_}
 use lib.ListN.{length, getD}
 use Rattle.fields.specs.BigEndian.{bytes}
 use Rattle.times.specs.Times.{back}

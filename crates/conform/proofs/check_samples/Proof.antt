@@ -1,8 +1,7 @@
-use Rattle.conform.proofs.Laws.{ends-short, ends-well}
+use Rattle.conform.proofs.Laws.{ends-short, ends-well, few-rows, in-table, row-inside, sound-rises, sound-pooled, reached-start, reached-on, answerFrom, answer-start, answer-past, answer-wrong, answer-on}
 use borrow.Author.Needs.{needs}
 use native.Mathlib.Omega.{arith}
 use native.Mathlib.Numerals.{add-one}
-use Rattle.conform.proofs.Laws.{few-rows, in-table, row-inside, sound-rises, sound-pooled, reached-start, reached-on, answerFrom, answer-start, answer-past, answer-wrong, answer-on}
 use Rattle.conform.specs.Window.{Reached}
 use Rattle.conform.specs.Conformance.{answered}
 use Rattle.track.proofs.Laws.{offset-suc, bytes-at}

@@ -1,5 +1,4 @@
-use Rattle.conform.proofs.Laws.{from-on, from-differs}
-use Rattle.conform.proofs.Laws.{matchesFrom, from-first, from-last, from-start}
+use Rattle.conform.proofs.Laws.{from-on, from-differs, matchesFrom, from-first, from-last, from-start}
 use Rattle.wvtt_cues.proofs.Walk.{heldFrom}
 use Rattle.wvtt_cues.specs.Cues.{sampleCues}
 use Rattle.timeline.specs.Checking.{matches}

@@ -23,7 +23,7 @@ returns-4 c = simp (← c .before .before .before .before .before .before .timel
 
 returns-5 : tie.Need-returns-5
 unfolding judgeList count
-returns-5 c = simp (← c .before .before .before .before .before .before .before .timeline-allowed .ensures, c .before .before .before .before .before .before .if1 .left, le-ltb _ _ (c .before .before .before .before .before .if2 .left), le-ltb _ _ (c .before .before .before .before .if3 .left), ← c .before .before .before .judge-records .ensures, c .before .enum-told .given .1, ← c .first-twice .ensures)
+returns-5 c = simp (← c .before .before .before .before .before .before .before .timeline-allowed .ensures, c .before .before .before .before .before .before .if1 .left, le-ltb _ _ (c .before .before .before .before .before .if2 .left), le-ltb _ _ (c .before .before .before .before .if3 .left), ← c .before .before .before .judge-records .ensures, c .before .enum-told .given .1, ← c .judge-ids .ensures)
 
 pub judge-list-spec : {M : Type 1} → statement M
 judge-list-spec =

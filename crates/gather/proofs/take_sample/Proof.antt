@@ -1,8 +1,7 @@
 use Prim.Native.Nat.{ℕ, _-_, _≤_}
-use mathlib.Core.Path.{_≡_, refl, sym, ap, _∙_, subst}
+use mathlib.Core.Path.{_≡_, sym, ap, _∙_, subst}
 use lib.ListN.{length}
 use Rattle.wvtt_cues.proofs.Walk.{heldFrom, Next, Inside, next-means}
-use Rattle.wvtt_cues.specs.declared.Held.the-variants.{Cue, End}
 use Rattle.wvtt_cues.specs.Cues.{sampleCues, heldBy}
 use Rattle.timeline.specs.Unpacking.{takeBody, takeAll}
 use Rattle.boxes.specs.Boxes.{part}
@@ -15,11 +14,6 @@ use borrow.Author.Needs.{needs}
 use native.Mathlib.Omega.{arith}
 use Rattle.gather.proofs.take_sample.Statement.{statement}
 use Rattle.gather.proofs.take_sample.Tie as tie
-use Rattle.gather.proofs.take_sample.Reads as reads
-use Rattle.gather.proofs.take_sample.Lts as lts
-use Rattle.gather.proofs.take_cue.Reads as take-cue-reads
-use Rattle.rows.proofs.new_row.Reads as new-row-reads
-use Rattle.wvtt_cues.proofs.next_cue.Reads as next-cue-reads
 
 abbrev Inv-loop : tie.InvT-loop
 Inv-loop samples tab₀ n b e at end count₀ k₀ from₀ tab count k from = (count ≤ 1024) × (length tab ≡ 9216) × Good (length samples) tab count × (takeAll b e (known samples tab count) k (heldFrom (part samples at end) from) ≡ takeAll b e (known samples tab₀ n) 0 (sampleCues (part samples at end)))
@@ -49,75 +43,28 @@ step c = let a = c .before .before .before .before .before .before .before .befo
     ∙ ap (λ (y : Row). takeBody (y .start) (y .end) (known (a .samples .now) (l .tab) (l .count)) (l .k) (bodyAt (a .samples .now) (v .named) y)) (c .before .before .new-row .ensures)
     ∙ ap (takeBody (a .b) (a .e) (known (a .samples .now) (l .tab) (l .count)) (l .k)) (sym (held-moved (a .samples .now) (a .at) (a .end) (a .b) (a .e) v (c .before .before .before .before .before .before .before .before .before .before .before .pre .3) (inside (c .before .before .before))))
 
--- src/lib.rt:74:5
 loop-holds : tie.Need-loop-holds Inv-loop μ-loop
 loop-holds c = (c .before .before .pre .0, c .before .before .pre .1, c .before .before .pre .2, ap (takeAll _ _ _ 0) (all-held _))
 
--- src/lib.rt:75:26
-sub-next-cue : tie.Need-sub-next-cue Inv-loop μ-loop
-sub-next-cue c = omega arith
-
--- src/lib.rt:75:26
-part-next-cue-start : tie.Need-part-next-cue-start Inv-loop μ-loop
-part-next-cue-start c = omega arith
-
--- src/lib.rt:75:26
-part-next-cue-end : tie.Need-part-next-cue-end Inv-loop μ-loop
-part-next-cue-end c = omega arith
-
--- src/lib.rt:75:13
-next-cue-requires : tie.Need-next-cue-requires Inv-loop μ-loop
-next-cue-requires c κs = search needs
-
--- src/lib.rt:76:25
-enum-known-h : tie.Need-enum-known-h Inv-loop μ-loop
-enum-known-h c = omega arith
-
--- src/lib.rt:77:13
-enum-told : tie.Need-enum-told Inv-loop μ-loop
-enum-told c = omega arith
-
--- src/lib.rt:77:13
-same-length : tie.Need-same-length Inv-loop μ-loop
-same-length c = omega arith
-
--- src/lib.rt:77:13
 returns : tie.Need-returns Inv-loop μ-loop
 unfolding part
 returns c = let l = c .before .before .before .before .loop in
     (take-end _ _ _ _ _ _ (l .inv .3) (next-means _ _ _ (sym (c .enum-told .given .1) ∙ c .before .before .next-cue .ensures)), (l .inv .0, l .inv .2))
 
--- src/lib.rt:82:13
 new-row-requires : tie.Need-new-row-requires Inv-loop μ-loop
 new-row-requires c κs = let w = inside c in omega (arith, w .identifier .order, w .identifier .inside, w .settings .order, w .settings .inside, w .payload .order, w .payload .inside, c .before .before .before .before .before .before .before .before .pre .3, c .before .before .before .before .before .before .before .before .pre .4)
 
--- src/lib.rt:83:13
 take-cue-requires : tie.Need-take-cue-requires Inv-loop μ-loop
 take-cue-requires c κs = let l = c .before .before .before .before .before .before .before .loop in let a = c .before .before .before .before .before .before .before .before .before .before .args in
     (l .inv .0, l .inv .1, l .inv .2, subst (Placed (length (a .samples .now))) (sym (c .before .new-row .ensures)) (placed-moved (a .at) (a .end) (length (a .samples .now)) (a .b) (a .e) _ (c .before .before .before .before .before .before .before .before .before .before .pre .3) (c .before .before .before .before .before .before .before .before .before .before .pre .4) (inside (c .before .before))))
 
--- src/lib.rt:84:33
-enum-known-t : tie.Need-enum-known-t Inv-loop μ-loop
-enum-known-t c = omega arith
-
--- src/lib.rt:85:13
-enum-told-2 : tie.Need-enum-told-2 Inv-loop μ-loop
-enum-told-2 c = omega arith
-
--- src/lib.rt:85:13
-same-length-2 : tie.Need-same-length-2 Inv-loop μ-loop
-same-length-2 c = omega arith
-
--- src/lib.rt:85:13
 returns-2 : tie.Need-returns-2 Inv-loop μ-loop
 returns-2 c = let l = c .before .before .before .before .before .before .before .before .before .before .before .before .loop in let q = c .enum-told2 .given .1 in
     rw q (take-stop _ _ _ _ _ _ (l .inv .3) _ _ (got (c .before .before .before .before .before .before .before) .held) _ (sym (ap (takingOf _ _) q) ∙ step (c .before .before .before .before)), tt)
 
--- src/lib.rt:74:5
 loop-less : tie.Need-loop-less Inv-loop μ-loop
 loop-less c = let w = got (c .before .before .before .before .before .before .before .before) in omega (arith, w .on, w .within, length-part (c .before .before .before .before .before .before .before .before .before .before .before .before .before .before .before .before .args .samples .now) (c .before .before .before .before .before .before .before .before .before .before .before .before .before .before .before .before .args .at) (c .before .before .before .before .before .before .before .before .before .before .before .before .before .before .before .before .args .end) (c .before .before .before .before .before .before .before .before .before .before .before .before .before .before .before .before .pre .3) (c .before .before .before .before .before .before .before .before .before .before .before .before .before .before .before .before .pre .4))
 
--- src/lib.rt:74:5
 loop-again : tie.Need-loop-again Inv-loop μ-loop
 loop-again c = let l = c .before .before .before .before .before .before .before .before .before .before .before .before .before .loop in let q = c .before .t .given .1 in
     let w = subst (Settled _ _) q (c .before .before .before .before .before .take-cue .ensures .1) in
@@ -130,19 +77,19 @@ take-sample-spec =
     Inv-loop
     μ-loop
     loop-holds
-    sub-next-cue
-    part-next-cue-start
-    part-next-cue-end
-    next-cue-requires
-    enum-known-h
-    enum-told
-    same-length
+    (λ c. omega arith)
+    (λ c. omega arith)
+    (λ c. omega arith)
+    (λ c κs. search needs)
+    (λ c. omega arith)
+    (λ c. omega arith)
+    (λ c. omega arith)
     returns
     new-row-requires
     take-cue-requires
-    enum-known-t
-    enum-told-2
-    same-length-2
+    (λ c. omega arith)
+    (λ c. omega arith)
+    (λ c. omega arith)
     returns-2
     loop-less
     loop-again)

@@ -1,15 +1,11 @@
 use Prim.Native.Nat.{_-_, _≤_}
-use mathlib.Core.Bool.{true}
 use mathlib.Core.Path.{_≡_, refl, sym, _∙_}
 use lib.ListN.{length, drop}
 use Rattle.base.specs.Choice.{sameList}
 use Rattle.rows.proofs.Laws.{same-lengths, same-not, same-more, same-end}
-use borrow.Author.Needs.{needs}
 use native.Mathlib.Omega.{arith}
 use Rattle.rows.proofs.same_text.Statement.{statement}
 use Rattle.rows.proofs.same_text.Tie as tie
-use Rattle.rows.proofs.same_text.Reads as reads
-use Rattle.rows.proofs.same_text.Lts as lts
 
 abbrev Inv-loop : tie.InvT-loop
 Inv-loop a b i₀ i = (i ≤ length a) × (sameList (drop i a) (drop i b) ≡ sameList a b)
@@ -17,39 +13,18 @@ Inv-loop a b i₀ i = (i ≤ length a) × (sameList (drop i a) (drop i b) ≡ sa
 abbrev μ-loop : tie.MeasureT-loop
 μ-loop a b i₀ i = length a - i
 
--- src/lib.rt:123:9
 returns : tie.Need-returns Inv-loop μ-loop
 returns c = sym (same-lengths _ _ (c .if1 .taken))
 
--- src/lib.rt:126:5
 loop-holds : tie.Need-loop-holds Inv-loop μ-loop
 loop-holds c = (omega arith, refl)
 
--- src/lib.rt:127:12
-shared-slice-read-if2 : tie.Need-shared-slice-read-if2 Inv-loop μ-loop
-shared-slice-read-if2 c = omega arith
-
--- src/lib.rt:127:20
-shared-slice-read-if2-2 : tie.Need-shared-slice-read-if2-2 Inv-loop μ-loop
-shared-slice-read-if2-2 c = omega arith
-
--- src/lib.rt:128:13
 returns-2 : tie.Need-returns-2 Inv-loop μ-loop
 returns-2 c = sym (same-not (c .before .before .before .before .before .before .args .a .now) (c .before .before .before .before .before .before .args .b .now) (c .before .before .before .before .loop .i) (c .before .before .before .before .before .if1 .left) (c .before .before .before .loop-test .taken) (c .if2 .taken)) ∙ c .before .before .before .before .loop .inv .1
 
--- src/lib.rt:130:9
-add-i : tie.Need-add-i Inv-loop μ-loop
-add-i c = omega arith
-
--- src/lib.rt:126:5
-loop-less : tie.Need-loop-less Inv-loop μ-loop
-loop-less c = omega arith
-
--- src/lib.rt:126:5
 loop-again : tie.Need-loop-again Inv-loop μ-loop
 loop-again c = (omega arith, same-more (c .before .before .before .before .before .before .args .a .now) (c .before .before .before .before .before .before .args .b .now) (c .before .before .before .before .loop .i) (c .before .before .before .before .before .if1 .left) (c .before .before .before .loop-test .taken) (c .if2 .left) ∙ c .before .before .before .before .loop .inv .1)
 
--- src/lib.rt:119:1
 returns-3 : tie.Need-returns-3 Inv-loop μ-loop
 returns-3 c = sym (same-end _ _ _ (c .before .before .if1 .left) (c .loop-test .left)) ∙ c .before .loop .inv .1
 
@@ -61,10 +36,10 @@ same-text-spec =
     μ-loop
     returns
     loop-holds
-    shared-slice-read-if2
-    shared-slice-read-if2-2
+    (λ c. omega arith)
+    (λ c. omega arith)
     returns-2
-    add-i
-    loop-less
+    (λ c. omega arith)
+    (λ c. omega arith)
     loop-again
     returns-3)

@@ -4,33 +4,15 @@ use Rattle.rows.specs.Table.{sameTexts}
 use borrow.Author.Needs.{needs}
 use Rattle.rows.proofs.same_texts.Statement.{statement}
 use Rattle.rows.proofs.same_texts.Tie as tie
-use Rattle.rows.proofs.same_texts.Reads as reads
-use Rattle.rows.proofs.same_texts.Lts as lts
-use Rattle.rows.proofs.same_part.Reads as same-part-reads
 
--- src/lib.rt:133:9
-same-part-requires : tie.Need-same-part-requires
-same-part-requires c κs = search needs
-
--- src/lib.rt:134:9
 returns : tie.Need-returns
 unfolding sameTexts textOf
 returns c = simp (← c .before .same-part .ensures, not-true (c .before .same-part .result) (c .if1 .taken))
 
--- src/lib.rt:138:9
-same-part-requires-2 : tie.Need-same-part-requires-2
-same-part-requires-2 c κs = search needs
-
--- src/lib.rt:139:9
 returns-2 : tie.Need-returns-2
 unfolding sameTexts textOf
 returns-2 c = simp (← c .before .before .before .before .before .same-part .ensures, not-false (c .before .before .before .before .before .same-part .result) (c .before .before .before .before .if1 .left), ← c .before .same-part2 .ensures, not-true (c .before .same-part2 .result) (c .if2 .taken))
 
--- src/lib.rt:143:5
-same-part-requires-3 : tie.Need-same-part-requires-3
-same-part-requires-3 c κs = search needs
-
--- src/lib.rt:127:1
 returns-3 : tie.Need-returns-3
 unfolding sameTexts textOf
 returns-3 c = simp (← c .before .before .before .before .before .before .before .before .same-part .ensures, not-false (c .before .before .before .before .before .before .before .before .same-part .result) (c .before .before .before .before .before .before .before .if1 .left), ← c .before .before .before .before .same-part2 .ensures, not-false (c .before .before .before .before .same-part2 .result) (c .before .before .before .if2 .left), ← c .same-part3 .ensures)
@@ -39,9 +21,9 @@ pub same-texts-spec : {M : Type 1} → statement M
 same-texts-spec =
     tie.close
     (tie.spec
-    same-part-requires
+    (λ c κs. search needs)
     returns
-    same-part-requires-2
+    (λ c κs. search needs)
     returns-2
-    same-part-requires-3
+    (λ c κs. search needs)
     returns-3)

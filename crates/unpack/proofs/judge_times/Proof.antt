@@ -10,11 +10,6 @@ use borrow.Author.Needs.{needs}
 use native.Mathlib.Omega.{arith}
 use Rattle.unpack.proofs.judge_times.Statement.{statement}
 use Rattle.unpack.proofs.judge_times.Tie as tie
-use Rattle.unpack.proofs.judge_times.Reads as reads
-use Rattle.unpack.proofs.judge_times.Lts as lts
-use Rattle.rows.proofs.row_at.Reads as row-at-reads
-use Rattle.unpack.proofs.bad_times.Reads as bad-times-reads
-use Rattle.verdict.proofs.refused.Reads as refused-reads
 
 abbrev Inv-loop : tie.InvT-loop
 Inv-loop scale tab n i₀ i = (i ≤ n) × (each (rowTimes scale tab) i ≡ Fine)
@@ -22,41 +17,20 @@ Inv-loop scale tab n i₀ i = (i ≤ n) × (each (rowTimes scale tab) i ≡ Fine
 abbrev μ-loop : tie.MeasureT-loop
 μ-loop scale tab n i₀ i = n - i
 
--- src/lib.rt:59:5
 loop-holds : tie.Need-loop-holds Inv-loop μ-loop
 unfolding each
 loop-holds c = (omega arith, refl)
 
--- src/lib.rt:60:13
-row-at-requires : tie.Need-row-at-requires Inv-loop μ-loop
-row-at-requires c κs = search needs
-
--- src/lib.rt:61:12
 bad-times-requires : tie.Need-bad-times-requires Inv-loop μ-loop
 bad-times-requires c κs = let w = c .before .before .before .before .pre .2 (c .before .before .loop .i) (c .before .loop-test .taken) in
     subst (λ (r : Row). (0 < c .before .before .before .before .args .scale) × (r .start < 281474976710656) × (r .end < 281474976710656)) (sym (c .row-at .ensures)) (c .before .before .before .before .pre .0, w .0, w .1)
 
--- src/lib.rt:62:13
-refused-requires : tie.Need-refused-requires Inv-loop μ-loop
-refused-requires c κs = search needs
-
--- src/lib.rt:62:13
 returns : tie.Need-returns Inv-loop μ-loop
 returns c = c .refused .ensures ∙ sym (each-stops (rowTimes (c .before .before .before .before .before .before .before .args .scale) (c .before .before .before .before .before .before .before .args .tab .now)) (c .before .before .before .before .before .loop .i) (c .before .before .before .before .before .before .before .args .n) _ (c .before .before .before .before .loop-test .taken) (c .before .before .before .before .before .loop .inv .1) (times-bad _ _ _ (c .before .before .before .row-at .result) (c .before .before .bad-times .result) (c .before .before .before .row-at .ensures) (c .before .before .bad-times .ensures) (c .before .if1 .taken)))
 
--- src/lib.rt:64:9
-add-i : tie.Need-add-i Inv-loop μ-loop
-add-i c = omega arith
-
--- src/lib.rt:59:5
-loop-less : tie.Need-loop-less Inv-loop μ-loop
-loop-less c = omega arith
-
--- src/lib.rt:59:5
 loop-again : tie.Need-loop-again Inv-loop μ-loop
 loop-again c = (omega arith, each-more (rowTimes (c .before .before .before .before .before .before .args .scale) (c .before .before .before .before .before .before .args .tab .now)) _ (c .before .before .before .before .loop .inv .1) (times-good _ _ _ (c .before .before .row-at .result) (c .before .bad-times .result) (c .before .before .row-at .ensures) (c .before .bad-times .ensures) (c .if1 .left)))
 
--- src/lib.rt:54:1
 returns-2 : tie.Need-returns-2 Inv-loop μ-loop
 returns-2 c = sym (ap (each (rowTimes (c .before .before .before .args .scale) (c .before .before .before .args .tab .now))) (sym (le-antisymm (c .before .loop .inv .0) (c .loop-test .left))) ∙ c .before .loop .inv .1)
 
@@ -67,11 +41,11 @@ judge-times-spec =
     Inv-loop
     μ-loop
     loop-holds
-    row-at-requires
+    (λ c κs. search needs)
     bad-times-requires
-    refused-requires
+    (λ c κs. search needs)
     returns
-    add-i
-    loop-less
+    (λ c. omega arith)
+    (λ c. omega arith)
     loop-again
     returns-2)

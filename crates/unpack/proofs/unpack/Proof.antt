@@ -1,5 +1,5 @@
 use Prim.Native.Nat.{ℕ}
-use mathlib.Core.Path.{_≡_, refl, sym, ap, _∙_, subst}
+use mathlib.Core.Path.{refl, sym, ap, _∙_, subst}
 use mathlib.Core.List.{List}
 use native.Mathlib.Omega.{arith}
 use lib.ListN.{length}
@@ -18,80 +18,23 @@ use Rattle.unpack.proofs.Laws.{scale-refused, track-refused, list-stopp
 use borrow.Author.Needs.{needs}
 use Rattle.unpack.proofs.unpack.Statement.{statement}
 use Rattle.unpack.proofs.unpack.Tie as tie
-use Rattle.unpack.proofs.unpack.Reads as reads
-use Rattle.unpack.proofs.unpack.Lts as lts
-use Rattle.gather.proofs.gather.Reads as gather-reads
-use Rattle.times.proofs.scale_allowed.Reads as scale-allowed-reads
-use Rattle.track.proofs.judge_track.Reads as judge-track-reads
-use Rattle.unpack.proofs.fault_of.Reads as fault-of-reads
-use Rattle.unpack.proofs.refusal_of.Reads as refusal-of-reads
-use Rattle.unpack.proofs.write_list.Reads as write-list-reads
-use Rattle.verdict.proofs.fault_at.Reads as fault-at-reads
 
--- src/lib.rt:147:9
-scale-allowed-requires : tie.Need-scale-allowed-requires
-scale-allowed-requires c κs = search needs
-
--- src/lib.rt:148:34
-fault-at-requires : tie.Need-fault-at-requires
-fault-at-requires c κs = search needs
-
--- src/lib.rt:148:9
 returns : tie.Need-returns
 returns c = (ap Refused (c .fault-at .ensures) ∙ scale-refused _ _ _ _ _ (sym (c .before .before .scale-allowed .ensures) ∙ not-true (c .before .before .scale-allowed .result) (c .before .if1 .taken)), refl, refl)
 
--- src/lib.rt:150:9
-judge-track-requires : tie.Need-judge-track-requires
-judge-track-requires c κs = search needs
-
-enum-told : tie.Need-enum-told
-enum-told c = search needs
-
--- src/lib.rt:152:9
-enum-told-2 : tie.Need-enum-told-2
-enum-told-2 c = search needs
-
--- src/lib.rt:152:9
-refusal-of-requires : tie.Need-refusal-of-requires
-refusal-of-requires c κs = search needs
-
--- src/lib.rt:152:9
 returns-2 : tie.Need-returns-2
 returns-2 c = let t = c .before .enum-told2 .given .1 in
     let q = c .refusal-of .ensures ∙ ap (λ (v : Verdict). answerBy v (Done 0 0 0)) t in
     rw q (track-refused _ _ _ _ _ (sym (c .before .before .before .before .before .scale-allowed .ensures) ∙ not-false (c .before .before .before .before .before .scale-allowed .result) (c .before .before .before .before .if1 .left)) _ (sym (c .before .before .before .judge-track .ensures) ∙ t), refl, refl)
 
--- src/lib.rt:155:36
-slice-aggregate-gather : tie.Need-slice-aggregate-gather
-slice-aggregate-gather c = search needs
-
--- src/lib.rt:155:9
 gather-requires : tie.Need-gather-requires
 gather-requires c κs = (sym (c .before .before .before .judge-track .ensures) ∙ c .before .enum-told .given .1, refl)
 
--- src/lib.rt:156:25
-enum-known-g : tie.Need-enum-known-g
-enum-known-g c = search needs
-
--- src/lib.rt:157:9
-enum-told-3 : tie.Need-enum-told-3
-enum-told-3 c = search needs
-
--- src/lib.rt:157:9
-fault-of-requires : tie.Need-fault-of-requires
-fault-of-requires c κs = search needs
-
--- src/lib.rt:157:9
 returns-3 : tie.Need-returns-3
 returns-3 c = let t = c .before .enum-told3 .given .1 in
     let q = c .fault-of .ensures ∙ ap faultOf t in
     rw q (list-stopped _ _ _ _ _ (sym (c .before .before .before .before .before .before .before .before .before .before .scale-allowed .ensures) ∙ not-false (c .before .before .before .before .before .before .before .before .before .before .scale-allowed .result) (c .before .before .before .before .before .before .before .before .before .if1 .left)) (sym (c .before .before .before .before .before .before .before .before .judge-track .ensures) ∙ c .before .before .before .before .before .before .enum-told .given .1) _ _ (sym (ap (unpackedOf _ _) t) ∙ c .before .before .before .before .gather .ensures .0), refl, refl)
 
--- src/lib.rt:159:32
-slice-aggregate-write-list : tie.Need-slice-aggregate-write-list
-slice-aggregate-write-list c = search needs
-
--- src/lib.rt:159:5
 write-list-requires : tie.Need-write-list-requires
 write-list-requires c κs = let a = c .before .before .before .before .before .before .before .before .before .before .before .before .before .before .before .before .before .before .args in
     let ok = sym (c .before .before .before .before .before .before .before .before .before .before .before .before .before .scale-allowed .ensures) ∙ not-false (c .before .before .before .before .before .before .before .before .before .before .before .before .before .scale-allowed .result) (c .before .before .before .before .before .before .before .before .before .before .before .before .if1 .left) in
@@ -100,15 +43,6 @@ write-list-requires c κs = let a = c .before .before .before .before .before .b
     let w = subst (Complete (a .table .now) (a .samples .now) (c .before .before .before .before .before .before .before .gather .last .1 .1 .0)) t (c .before .before .before .before .before .before .before .gather .ensures .1) in
     (scale-limits (a .scale) ok .0, w .0, omega (arith, w .0), rows-ready (a .table .now) (a .samples .now) fine _ _ (w .1) (sym (ap (unpackedOf _ _) t) ∙ c .before .before .before .before .before .before .before .gather .ensures .0) (omega (arith, w .2, w .3)), w .3)
 
--- src/lib.rt:144:1
-same-length : tie.Need-same-length
-same-length c = search needs
-
--- src/lib.rt:144:1
-same-length-2 : tie.Need-same-length-2
-same-length-2 c = search needs
-
--- src/lib.rt:144:1
 returns-4 : tie.Need-returns-4
 unfolding trackMs
 returns-4 c = let a = c .before .before .before .before .before .before .before .before .before .before .before .before .before .before .before .before .before .before .before .before .before .before .before .args in
@@ -129,22 +63,22 @@ pub unpack-spec : {M : Type 1} → statement M
 unpack-spec =
     tie.close
     (tie.spec
-    scale-allowed-requires
-    fault-at-requires
+    (λ c κs. search needs)
+    (λ c κs. search needs)
     returns
-    judge-track-requires
-    enum-told
-    enum-told-2
-    refusal-of-requires
+    (λ c κs. search needs)
+    (λ c. search needs)
+    (λ c. search needs)
+    (λ c κs. search needs)
     returns-2
-    slice-aggregate-gather
+    (λ c. search needs)
     gather-requires
-    enum-known-g
-    enum-told-3
-    fault-of-requires
+    (λ c. search needs)
+    (λ c. search needs)
+    (λ c κs. search needs)
     returns-3
-    slice-aggregate-write-list
+    (λ c. search needs)
     write-list-requires
-    same-length
-    same-length-2
+    (λ c. search needs)
+    (λ c. search needs)
     returns-4)

@@ -7,10 +7,6 @@ use borrow.Author.Needs.{needs}
 use native.Mathlib.Omega.{arith}
 use Rattle.unpack_write.proofs.pool_size.Statement.{statement}
 use Rattle.unpack_write.proofs.pool_size.Tie as tie
-use Rattle.unpack_write.proofs.pool_size.Reads as reads
-use Rattle.unpack_write.proofs.pool_size.Lts as lts
-use Rattle.rows.proofs.row_at.Reads as row-at-reads
-use Rattle.unpack_write.proofs.row_size.Reads as row-size-reads
 
 abbrev Inv-loop : tie.InvT-loop
 Inv-loop tab n size₀ i₀ size i = (i ≤ n) × (size ≡ sizeTo tab i) × (size ≤ i * 4605)
@@ -18,36 +14,16 @@ Inv-loop tab n size₀ i₀ size i = (i ≤ n) × (size ≡ sizeTo tab i) × (si
 abbrev μ-loop : tie.MeasureT-loop
 μ-loop tab n size₀ i₀ size i = n - i
 
--- src/lib.rt:38:5
 loop-holds : tie.Need-loop-holds Inv-loop μ-loop
 unfolding sizeTo
 loop-holds c = (omega arith, refl, omega arith)
 
--- src/lib.rt:39:13
-row-at-requires : tie.Need-row-at-requires Inv-loop μ-loop
-row-at-requires c κs = search needs
-
--- src/lib.rt:40:17
 row-size-requires : tie.Need-row-size-requires Inv-loop μ-loop
 row-size-requires c κs = subst Short (sym (c .row-at .ensures)) (c .before .before .before .before .pre .2 (c .before .before .loop .i) (c .before .loop-test .taken))
 
--- src/lib.rt:40:9
-add-size : tie.Need-add-size Inv-loop μ-loop
-add-size c = omega arith
-
--- src/lib.rt:41:9
-add-i : tie.Need-add-i Inv-loop μ-loop
-add-i c = omega arith
-
--- src/lib.rt:38:5
-loop-less : tie.Need-loop-less Inv-loop μ-loop
-loop-less c = omega arith
-
--- src/lib.rt:38:5
 loop-again : tie.Need-loop-again Inv-loop μ-loop
 loop-again c = (omega arith, ap (λ (x : ℕ). x + c .row-size .result) (c .before .before .before .loop .inv .1) ∙ size-more _ _ _ (c .row-size .ensures .0 ∙ ap rowSize (c .before .row-at .ensures)), omega arith)
 
--- src/lib.rt:32:1
 returns : tie.Need-returns Inv-loop μ-loop
 returns c = (c .before .loop .inv .1 ∙ ap (sizeTo (c .before .before .before .args .tab .now)) (le-antisymm (c .before .loop .inv .0) (c .loop-test .left)), omega arith)
 
@@ -58,10 +34,10 @@ pool-size-spec =
     Inv-loop
     μ-loop
     loop-holds
-    row-at-requires
+    (λ c κs. search needs)
     row-size-requires
-    add-size
-    add-i
-    loop-less
+    (λ c. omega arith)
+    (λ c. omega arith)
+    (λ c. omega arith)
     loop-again
     returns)

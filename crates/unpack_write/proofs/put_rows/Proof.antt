@@ -14,12 +14,6 @@ use borrow.Author.Needs.{needs}
 use native.Mathlib.Omega.{arith}
 use Rattle.unpack_write.proofs.put_rows.Statement.{statement}
 use Rattle.unpack_write.proofs.put_rows.Tie as tie
-use Rattle.unpack_write.proofs.put_rows.Reads as reads
-use Rattle.unpack_write.proofs.put_rows.Lts as lts
-use Rattle.rows.proofs.row_at.Reads as row-at-reads
-use Rattle.unpack_write.proofs.put_record.Reads as put-record-reads
-use Rattle.unpack_write.proofs.put_texts.Reads as put-texts-reads
-use Rattle.unpack_write.proofs.row_size.Reads as row-size-reads
 
 abbrev Inv-loop : tie.InvT-loop
 Inv-loop scale samples tab n records₀ pool₀ at₀ i₀ records pool at i = (i ≤ n) × (at ≡ sizeTo tab i) × (records ≡ over (recordsTo scale (known samples tab n) i) records₀) × (pool ≡ over (poolTo (known samples tab n) i) pool₀) × (length records ≡ length records₀) × (length pool ≡ length pool₀)
@@ -27,20 +21,10 @@ Inv-loop scale samples tab n records₀ pool₀ at₀ i₀ records pool at i = (
 abbrev μ-loop : tie.MeasureT-loop
 μ-loop scale samples tab n records₀ pool₀ at₀ i₀ records pool at i = n - i
 
--- src/lib.rt:104:5
 loop-holds : tie.Need-loop-holds Inv-loop μ-loop
 unfolding sizeTo recordsTo poolTo
 loop-holds c = (omega arith, refl, over-nil _, over-nil _, refl, refl)
 
--- src/lib.rt:105:13
-row-at-requires : tie.Need-row-at-requires Inv-loop μ-loop
-row-at-requires c κs = search needs
-
--- src/lib.rt:106:35
-mul-put-record : tie.Need-mul-put-record Inv-loop μ-loop
-mul-put-record c = omega arith
-
--- src/lib.rt:106:9
 put-record-requires : tie.Need-put-record-requires Inv-loop μ-loop
 put-record-requires c κs = let l = c .before .before .before .loop in let p = c .before .before .before .before .before .before .before .before .pre in let a = c .before .before .before .before .before .before .before .before .args in
     let h = c .before .before .loop-test .taken in
@@ -48,7 +32,6 @@ put-record-requires c κs = let l = c .before .before .before .loop in let p = c
     let t = subst (InTime (a .scale)) (sym (c .before .row-at .ensures)) (p .4 (l .i) h) in
     (p .0, omega (arith, p .5, l .inv .4), r .short, r .id-below, r .start-below, r .end-below, t .0, t .1, omega (arith, l .inv .1, p .1, size-bound (a .tab .now) (l .i) (λ j q. p .3 j (omega arith) .short)))
 
--- src/lib.rt:107:9
 put-texts-requires : tie.Need-put-texts-requires Inv-loop μ-loop
 put-texts-requires c κs = let l = c .before .before .before .before .before .before .before .loop in let p = c .before .before .before .before .before .before .before .before .before .before .before .before .pre in let a = c .before .before .before .before .before .before .before .before .before .before .before .before .args in
     let h = c .before .before .before .before .before .before .loop-test .taken in (
@@ -56,23 +39,12 @@ put-texts-requires c κs = let l = c .before .before .before .before .before .be
       subst (Ready (length (a .samples .now))) (sym (c .before .before .before .before .before .row-at .ensures)) (p .3 (l .i) h),
     )
 
--- src/lib.rt:108:15
 row-size-requires : tie.Need-row-size-requires Inv-loop μ-loop
 row-size-requires c κs = subst Short (sym (c .before .before .before .before .before .before .before .before .row-at .ensures)) (c .before .before .before .before .before .before .before .before .before .before .before .before .before .before .before .pre .3 (c .before .before .before .before .before .before .before .before .before .before .loop .i) (c .before .before .before .before .before .before .before .before .before .loop-test .taken) .short)
 
--- src/lib.rt:108:9
 add-at : tie.Need-add-at Inv-loop μ-loop
 add-at c = let l = c .before .before .before .before .before .before .before .before .before .before .before .loop in let p = c .before .before .before .before .before .before .before .before .before .before .before .before .before .before .before .before .pre in let a = c .before .before .before .before .before .before .before .before .before .before .before .before .before .before .before .before .args in omega (arith, l .inv .1, p .1, c .row-size .ensures .1, size-bound (a .tab .now) (l .i) (λ j q. p .3 j (omega arith) .short))
 
--- src/lib.rt:109:9
-add-i : tie.Need-add-i Inv-loop μ-loop
-add-i c = omega arith
-
--- src/lib.rt:104:5
-loop-less : tie.Need-loop-less Inv-loop μ-loop
-loop-less c = omega arith
-
--- src/lib.rt:104:5
 loop-again : tie.Need-loop-again Inv-loop μ-loop
 loop-again c = let l = c .before .before .before .before .before .before .before .before .before .before .before .loop in let p = c .before .before .before .before .before .before .before .before .before .before .before .before .before .before .before .before .pre in let a = c .before .before .before .before .before .before .before .before .before .before .before .before .before .before .before .before .args in
     let h = c .before .before .before .before .before .before .before .before .before .before .loop-test .taken in
@@ -91,15 +63,6 @@ loop-again c = let l = c .before .before .before .before .before .before .before
       omega arith,
     )
 
--- src/lib.rt:98:1
-same-length : tie.Need-same-length Inv-loop μ-loop
-same-length c = omega arith
-
--- src/lib.rt:98:1
-same-length-2 : tie.Need-same-length-2 Inv-loop μ-loop
-same-length-2 c = omega arith
-
--- src/lib.rt:98:1
 returns : tie.Need-returns Inv-loop μ-loop
 returns c = let l = c .before .loop in let a = c .before .before .before .before .before .before .args in
     let e = le-antisymm (l .inv .0) (c .loop-test .left) in
@@ -113,15 +76,15 @@ put-rows-spec =
     Inv-loop
     μ-loop
     loop-holds
-    row-at-requires
-    mul-put-record
+    (λ c κs. search needs)
+    (λ c. omega arith)
     put-record-requires
     put-texts-requires
     row-size-requires
     add-at
-    add-i
-    loop-less
+    (λ c. omega arith)
+    (λ c. omega arith)
     loop-again
-    same-length
-    same-length-2
+    (λ c. omega arith)
+    (λ c. omega arith)
     returns)
