@@ -1,3 +1,4 @@
 pub mod Packing
 pub mod Checking
 pub mod Unpacking
+pub mod Cases

@@ -2,12 +2,9 @@
 use Prim.Native.Nat.{ℕ, _≤_}
 use mathlib.Core.Path.{_≡_, refl, sym, _∙_}
 use mathlib.Core.List.{List, []}
-use mathlib.Core.Bool.{Bool, true, false, not}
+use mathlib.Core.Bool.{not}
 use native.Mathlib.Omega.{arith}
-use lib.Dec.{ltb, eqb}
 use lib.ListN.{length}
-use borrow.Author.Tests.{ltb-false}
-use Rattle.base.specs.Choice.{one-of}
 use Rattle.verdict.specs.declared.Verdict.{Verdict}
 use Rattle.verdict.specs.declared.Verdict.the-variants.{Fine, Refused}
 use Rattle.verdict.specs.Judgement.{_gives_at_, _then_, both-fine}
@@ -15,25 +12,16 @@ use Rattle.fields.specs.BigEndian.{be}
 use Rattle.boxes.specs.Boxes.{judged, among}
 use Rattle.bodies.specs.declared.Body.{Body}
 use Rattle.bodies.specs.declared.Body.the-variants.{At, Nowhere}
-use Rattle.bodies.proofs.Filled.{fine-false}
 use Rattle.bodies.proofs.Laws.{judged-found}
+use Rattle.entry_head.specs.Head.{judgeHead}
+use Rattle.entry_head.proofs.Laws.{head-fixed}
 use Rattle.tx3g_fonts.specs.Fonts.{fontAt, judgeFonts}
 use Rattle.tx3g_fonts.proofs.Laws.{fonts-fine}
-use Rattle.tx3g_entry.specs.Entry.{tx3g, ftab, judgeSize, judgeFixed, justifiedEntry, plainEntry, inEntry, nothingMore, entryBoxes, fontsOf, endEntry, judgeEntry}
-
-one-of-false : (a b : Bool) → one-of a b ≡ false → a ≡ false
-one-of-false true b h = h
-one-of-false false b h = refl
-
-pub size-fine : (e : List ℕ) → judgeSize e ≡ Fine → 46 ≤ length e
-unfolding judgeSize
-size-fine e h =
-    let w = both-fine (one-of (ltb (length e) 46) (ltb (length e) (be 4 e 0)) gives 1 at 0) (one-of (ltb (be 4 e 0) 46) (one-of (ltb (be 4 e 0) (length e)) (not (eqb (be 4 e 4) tx3g))) gives 2 at 0) h in
-    ltb-false (length e) 46 (one-of-false (ltb (length e) 46) (ltb (length e) (be 4 e 0)) (fine-false (one-of (ltb (length e) 46) (ltb (length e) (be 4 e 0))) 1 0 (w .0)))
+use Rattle.tx3g_entry.specs.Entry.{tx3g, ftab, judgeFixed, justifiedEntry, plainEntry, inEntry, nothingMore, entryBoxes, fontsOf, endEntry, judgeEntry}
 
 pub fixed-fine : (e : List ℕ) → judgeFixed e ≡ Fine → 46 ≤ length e
 unfolding judgeFixed
-fixed-fine e h = size-fine e (both-fine (judgeSize e) (not (justifiedEntry e) gives 8 at 0 then not (plainEntry e) gives 7 at 0) h .0)
+fixed-fine e h = head-fixed e 46 tx3g (both-fine (judgeHead e 46 tx3g) (not (justifiedEntry e) gives 8 at 0 then not (plainEntry e) gives 7 at 0) h .0)
 
 -- the fonts of boxes without fault
 pub boxes-fine : (e : List ℕ) (b : ℕ) → judged (inEntry e) nothingMore [] (entryBoxes e) ≡ Fine → fontsOf e ≡ At b → fontAt e b (be 2 e b) ≤ length e

@@ -11,6 +11,7 @@ use Rattle.verdict.specs.declared.Verdict.the-variants.{Fine}
 use Rattle.verdict.specs.Judgement.{_gives_at_, _then_, refuse}
 use Rattle.fields.specs.BigEndian.{be}
 use Rattle.boxes.specs.Boxes.{Boxes, boxesIn, judged, among}
+use Rattle.entry_head.specs.Head.{judgeHead}
 use Rattle.bodies.specs.declared.Body.{Body}
 use Rattle.bodies.specs.declared.Body.the-variants.{At, Nowhere}
 use Rattle.bodies.specs.Bodies.{bodyOf}
@@ -23,12 +24,6 @@ tx3g = 0x74783367
 abbrev pub ftab : ℕ
 ftab = 0x66746162
 
--- fewer bytes than the fixed ones or than the size says (1); a size below the fixed ones or short of the bytes, another type (2)
-unfoldable pub judgeSize : List ℕ → Verdict
-judgeSize e =
-    one-of (ltb (length e) 46) (ltb (length e) (be 4 e 0)) gives 1 at 0
-    then one-of (ltb (be 4 e 0) 46) (one-of (ltb (be 4 e 0) (length e)) (not (eqb (be 4 e 4) tx3g))) gives 2 at 0
-
 -- both justifications are allowed
 unfoldable pub justifiedEntry : List ℕ → Bool
 justifiedEntry e = both (justified (be 1 e 20)) (justified (be 1 e 21))
@@ -39,8 +34,8 @@ plainEntry e = both (ordered e 26) (both (eqb (be 2 e 34) 0) (eqb (be 2 e 36) 0)
 
 -- the fixed fields
 unfoldable pub judgeFixed : List ℕ → Verdict
-unfolding judgeSize justifiedEntry plainEntry
-judgeFixed e = judgeSize e then not (justifiedEntry e) gives 8 at 0 then not (plainEntry e) gives 7 at 0
+unfolding justifiedEntry plainEntry
+judgeFixed e = judgeHead e 46 tx3g then not (justifiedEntry e) gives 8 at 0 then not (plainEntry e) gives 7 at 0
 
 -- a box of an entry, with the kinds before it: one `ftab`; others are passed over
 unfoldable pub inEntry : List ℕ → List ℕ → ℕ → ℕ → ℕ → ℕ → Verdict

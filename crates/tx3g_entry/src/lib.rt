@@ -2,14 +2,15 @@
 use bodies::Body;
 use bodies::find_body;
 use boxes::Step;
+use boxes::mark_kind;
 use boxes::step_at;
 use boxes::stopped_by;
 use fields::get16;
-use fields::get32;
 use signed::is_justified;
 use signed::is_ordered;
 use tx3g_fonts::has_font;
 use tx3g_fonts::judge_fonts;
+use entry_head::judge_head;
 use verdict::Verdict;
 use verdict::refused;
 ghost use mathlib.Core.Path.{_≡_};
@@ -19,34 +20,11 @@ ghost use lib.ListN.{length};
 ghost use lib.Dec.{eqb};
 ghost use Rattle.base.specs.Choice.{one-of};
 ghost use Rattle.boxes.specs.Boxes.{judged, among};
-ghost use Rattle.tx3g_entry.specs.Entry.{ftab, judgeSize, judgeFixed, justifiedEntry, plainEntry, inEntry, nothingMore, entryBoxes, fontsOf, judgeEntry};
+ghost use Rattle.tx3g_entry.specs.Entry.{ftab, judgeFixed, justifiedEntry, plainEntry, inEntry, nothingMore, entryBoxes, fontsOf, judgeEntry};
 
 pub const TX3G: u32 = 0x74783367;
 
 pub const FTAB: u32 = 0x66746162;
-
-// Size and type.
-fn judge_size(e: &[u8]) -> Verdict
-    ensures { λ r. ⌜ r ≡ judgeSize (now (e .entry)) ⌝ }
-{
-    if e.len() < 46 {
-        return refused(1, 0);
-    }
-    let size = get32(e, 0) as usize;
-    if e.len() < size {
-        return refused(1, 0);
-    }
-    if size < 46 {
-        return refused(2, 0);
-    }
-    if size < e.len() {
-        return refused(2, 0);
-    }
-    if get32(e, 4) == TX3G {
-        return Verdict::Fine;
-    }
-    refused(2, 0)
-}
 
 // Whether both justifications are allowed.
 fn has_justification(e: &[u8]) -> bool
@@ -77,7 +55,7 @@ fn has_defaults(e: &[u8]) -> bool
 fn judge_fixed(e: &[u8]) -> Verdict
     ensures { λ r. ⌜ r ≡ judgeFixed (now (e .entry)) ⌝ }
 {
-    let v = judge_size(e);
+    let v = judge_head(e, 46, TX3G);
     let Verdict::Fine = v else {
         return v;
     };
@@ -104,15 +82,6 @@ fn judge_box(e: &[u8], seen: bool, place: usize, kind: u32, body: usize, next: u
     Verdict::Fine
 }
 
-fn mark(seen: bool, kind: u32) -> bool
-    ensures { λ r. ⌜ r ≡ one-of (eqb kind ftab) seen ⌝ }
-{
-    if kind == FTAB {
-        return true;
-    }
-    seen
-}
-
 // The boxes of an entry.
 fn judge_boxes(e: &[u8]) -> Verdict
     ensures { λ r. ⌜ r ≡ judged (inEntry (now (e .entry))) nothingMore [] (entryBoxes (now (e .entry))) ⌝ }
@@ -129,7 +98,7 @@ fn judge_boxes(e: &[u8]) -> Verdict
         let Verdict::Fine = v else {
             return v;
         };
-        seen = mark(seen, kind);
+        seen = mark_kind(seen, kind, FTAB);
         at = next;
     }
 }

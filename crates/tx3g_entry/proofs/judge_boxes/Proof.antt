@@ -49,7 +49,7 @@ loop-less c = let w = step-box _ _ _ _ _ _ (got (c .before .before .before .befo
 loop-again : tie.Need-loop-again Inv-loop μ-loop
 unfolding among
 loop-again c = let i = c .before .before .before .before .before .before .before .before .loop .inv in
-    (c .before .before .before .before .before .t .given .0 .0 ∷ i .0, rw (← i .1) (c .mark .ensures), judged-box (inEntry _) nothingMore _ _ _ (i .0) _ _ _ (got (c .before .before .before .before)) (sym (c .before .before .before .judge-box .ensures (i .0) (i .1)) ∙ c .before .enum-told .given .1) ∙ i .2)
+    (c .before .before .before .before .before .t .given .0 .0 ∷ i .0, rw (← i .1) (c .mark-kind .ensures), judged-box (inEntry _) nothingMore _ _ _ (i .0) _ _ _ (got (c .before .before .before .before)) (sym (c .before .before .before .judge-box .ensures (i .0) (i .1)) ∙ c .before .enum-told .given .1) ∙ i .2)
 
 pub judge-boxes-spec : {M : Type 1} → statement M
 judge-boxes-spec =

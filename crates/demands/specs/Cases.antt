@@ -1,0 +1,125 @@
+-- The cases of document 01 that are proved, in one table with a single statement.
+use Prim.Native.Nat.{ℕ, _+_}
+use mathlib.Core.Path.{_≡_, refl}
+use mathlib.Core.List.{List, [], _∷_, _++_, map}
+use mathlib.Core.Option.{Option, none, some}
+use lib.ListN.{length}
+use Rattle.verdict.specs.declared.Verdict.{Verdict}
+use Rattle.verdict.specs.declared.Verdict.the-variants.{Fine, Refused}
+use Rattle.fields.specs.BigEndian.{bytes}
+use Rattle.text.specs.declared.Counted.{Counted}
+use Rattle.text.specs.declared.Counted.the-variants.{Characters, Bad}
+use Rattle.text.specs.Characters.{charactersOf}
+use Rattle.timeline.specs.Cues.{Body}
+use Rattle.timeline.specs.Tracks.{Sample}
+use Rattle.timeline.specs.Lists.{listed}
+use Rattle.cues.specs.Records.{count, endMs, judgeList}
+use Rattle.pack.specs.Packing.{packedTrack, tableBytes, samplesBytes}
+use Rattle.unpack_write.specs.Records.{recordsOf}
+use Rattle.unpack.specs.Unpacking.{trackCues}
+use Rattle.report.specs.Report.{listText}
+
+-- a cue record in a case: ID, start and end in ms, payload
+pub record Row : Type 0 where
+  pub id : ℕ
+  pub start : ℕ
+  pub end : ℕ
+  pub payload : List ℕ
+
+-- its 24 bytes, the payload standing at an offset of the pool
+unfoldable pub rowBytes : ℕ → Row → List ℕ
+rowBytes offset r =
+    bytes 4 (r .id) ++ bytes 4 (r .start) ++ bytes 4 (r .end) ++ bytes 4 offset ++ bytes 2 0 ++ bytes 2 0 ++ bytes 2 (length (r .payload)) ++ bytes 2 0
+
+unfoldable pub rowsBytes : ℕ → List Row → List ℕ
+unfolding rowBytes
+rowsBytes offset [] = []
+rowsBytes offset (r ∷ rs) = rowBytes offset r ++ rowsBytes (offset + length (r .payload)) rs
+
+unfoldable pub rowsPool : List Row → List ℕ
+rowsPool [] = []
+rowsPool (r ∷ rs) = r .payload ++ rowsPool rs
+
+-- what a case asks: what the samples hold, the bytes, the times after unpacking, what the program prints; the characters of a text
+pub data Question : Type 0 where
+  holds : ℕ → ℕ → List Row → Question
+  written : ℕ → ℕ → List Row → Question
+  back : ℕ → ℕ → List Row → Question
+  prints : ℕ → ℕ → List Row → Question
+  characters : List ℕ → Question
+
+abbrev pub unlessRefused : Verdict → List (List ℕ) → List (List ℕ)
+unlessRefused Fine a = a
+unlessRefused (Refused r) a = (r .number ∷ r .place ∷ []) ∷ []
+
+abbrev pub idOf : Option ℕ → ℕ
+idOf none = 0
+idOf (some n) = n
+
+abbrev pub countOf : Counted → List (List ℕ)
+countOf (Characters n) = (n ∷ []) ∷ []
+countOf Bad = []
+
+-- the durations, and then the IDs that each sample holds; or number and place
+unfoldable pub askHolds : ℕ → ℕ → List ℕ → List ℕ → List (List ℕ)
+askHolds scale T recs pool =
+    unlessRefused (judgeList scale T recs pool)
+    (map (λ (s : Sample). s .duration) (packedTrack scale T recs pool) ∷ map (λ (s : Sample). map (λ (y : Body). idOf (y .id)) (s .held)) (packedTrack scale T recs pool))
+
+-- the table and the samples
+unfoldable pub askWritten : ℕ → ℕ → List ℕ → List ℕ → List (List ℕ)
+askWritten scale T recs pool = unlessRefused (judgeList scale T recs pool) (tableBytes (packedTrack scale T recs pool) ∷ samplesBytes (packedTrack scale T recs pool) ∷ [])
+
+-- the end of each record after packing and unpacking, in ms
+unfoldable pub askBack : ℕ → List ℕ → List (List ℕ)
+askBack scale recs = listed (λ i. endMs recs i) (count recs) ∷ []
+
+unfoldable pub asked : Question → List (List ℕ)
+unfolding askHolds askWritten askBack
+asked (holds scale T rs) = askHolds scale T (rowsBytes 0 rs) (rowsPool rs)
+asked (written scale T rs) = askWritten scale T (rowsBytes 0 rs) (rowsPool rs)
+asked (back scale T rs) =
+    askBack scale
+    (recordsOf scale (trackCues (tableBytes (packedTrack scale T (rowsBytes 0 rs) (rowsPool rs))) (samplesBytes (packedTrack scale T (rowsBytes 0 rs) (rowsPool rs)))))
+asked (prints scale T rs) = listText scale T (rowsBytes 0 rs) (rowsPool rs) ∷ []
+asked (characters s) = countOf (charactersOf s)
+
+-- a question and its answer
+pub record Case : Type 0 where
+  pub question : Question
+  pub answer : List (List ℕ)
+
+unfoldable abutting : List Row
+abutting = record { id = 1; start = 0; end = 333; payload = [] } ∷ record { id = 2; start = 333; end = 666; payload = [] } ∷ record { id = 3; start = 666; end = 999; payload = [] } ∷ []
+
+unfoldable hi : List Row
+hi = record { id = 7; start = 0; end = 1000; payload = 0x48 ∷ 0x69 ∷ [] } ∷ []
+
+-- document 01, 'Cases'
+unfoldable pub cases : List Case
+unfolding abutting hi
+cases =
+    record {
+      question = holds 1000 20000 (record { id = 1; start = 11000; end = 12500; payload = [] } ∷ record { id = 2; start = 13000; end = 18000; payload = [] } ∷ record { id = 3; start = 17000; end = 20000; payload = [] } ∷ []);
+      answer = (11000 ∷ 1500 ∷ 500 ∷ 4000 ∷ 1000 ∷ 2000 ∷ []) ∷ [] ∷ (1 ∷ []) ∷ [] ∷ (2 ∷ []) ∷ (2 ∷ 3 ∷ []) ∷ (3 ∷ []) ∷ []
+    }
+    ∷ record { question = holds 1500 999 abutting; answer = (499 ∷ 500 ∷ 499 ∷ []) ∷ (1 ∷ []) ∷ (2 ∷ []) ∷ (3 ∷ []) ∷ [] }
+    ∷ record { question = back 1500 999 abutting; answer = (333 ∷ 666 ∷ 999 ∷ []) ∷ [] }
+    ∷ record { question = holds 25 1000 (record { id = 1; start = 41; end = 79; payload = [] } ∷ []); answer = (10 ∷ 0 ∷ []) ∷ [] }
+    ∷ record { question = holds 25 80 (record { id = 1; start = 41; end = 80; payload = [] } ∷ []); answer = (1 ∷ 1 ∷ []) ∷ [] ∷ (1 ∷ []) ∷ [] }
+    ∷ record { question = written 1000 1000 []; answer = (0x00 ∷ 0x00 ∷ 0x03 ∷ 0xE8 ∷ 0x00 ∷ 0x00 ∷ 0x00 ∷ 0x08 ∷ []) ∷ (0x00 ∷ 0x00 ∷ 0x00 ∷ 0x08 ∷ 0x76 ∷ 0x74 ∷ 0x74 ∷ 0x65 ∷ []) ∷ [] }
+    ∷ record {
+      question = written 90000 1000 hi;
+      answer = (0x00 ∷ 0x01 ∷ 0x5F ∷ 0x90 ∷ 0x00 ∷ 0x00 ∷ 0x00 ∷ 0x1E ∷ [])
+      ∷ (0x00 ∷ 0x00 ∷ 0x00 ∷ 0x1E ∷ 0x76 ∷ 0x74 ∷ 0x74 ∷ 0x63 ∷ 0x00 ∷ 0x00 ∷ 0x00 ∷ 0x0C ∷ 0x76 ∷ 0x73 ∷ 0x69 ∷ 0x64 ∷ 0x00 ∷ 0x00 ∷ 0x00 ∷ 0x07
+      ∷ 0x00 ∷ 0x00 ∷ 0x00 ∷ 0x0A ∷ 0x70 ∷ 0x61 ∷ 0x79 ∷ 0x6C ∷ 0x48 ∷ 0x69 ∷ []) ∷ []
+    }
+    ∷ record { question = prints 90000 1000 hi; answer = (0x39 ∷ 0x30 ∷ 0x30 ∷ 0x30 ∷ 0x30 ∷ 0x20 ∷ 0x33 ∷ 0x30 ∷ 0x0A ∷ []) ∷ [] }
+    ∷ record { question = characters (0xC3 ∷ 0xA9 ∷ []); answer = (1 ∷ []) ∷ [] }
+    ∷ record { question = characters (0xFE ∷ 0xFF ∷ 0xD8 ∷ 0x3D ∷ 0xDE ∷ 0x00 ∷ []); answer = (1 ∷ []) ∷ [] }
+    ∷ record { question = characters (0xFE ∷ 0xFF ∷ []); answer = (0 ∷ []) ∷ [] }
+    ∷ []
+
+-- each question has its answer
+abbrev pub CasesHold : Type 0
+CasesHold = map (λ (c : Case). asked (c .question)) cases ≡ map (λ (c : Case). c .answer) cases
