@@ -163,11 +163,31 @@ typedef struct CaptionsTextBox {
     size_t offset;
 } CaptionsTextBox;
 
+/* A modifier of a good sample, by the type of its box. Its numbers, and what stands from `from` on:
+   styl: count; styles of 12 bytes. hlit, blnk: start, end. hclr: red, green, blue, alpha. krok: start time, count; entries of 8 bytes.
+   dlay: time. href: start, end; the URL up to `end`, and the alternative text. tbox: the 8 bytes. twrp: the flag. */
+typedef struct CaptionsModifier {
+    bool found;
+    uint32_t kind;
+    uint32_t first;
+    uint32_t second;
+    uint32_t third;
+    uint32_t fourth;
+    size_t from;
+    size_t end;
+    size_t alternativefrom;
+    size_t alternativeend;
+    size_t next;
+} CaptionsModifier;
+
 /* The entry is judged first, then the sample, then k (7, the sample's, place 0). */
 CaptionsJudgement captions_judge_tx3g_entry(const uint8_t *entry, size_t entry_len);
 CaptionsTx3g captions_judge_tx3g_sample(const uint8_t *entry, size_t entry_len, const uint8_t *sample, size_t sample_len);
 CaptionsStyle captions_style(const uint8_t *entry, size_t entry_len, const uint8_t *sample, size_t sample_len, size_t k);
 CaptionsTextBox captions_text_box(const uint8_t *entry, size_t entry_len, const uint8_t *sample, size_t sample_len);
+/* Where a sample's modifiers begin; and the first modifier from a place on: there, or the `next` of the one before. */
+size_t captions_modifiers_from(const uint8_t *sample, size_t sample_len);
+CaptionsModifier captions_next_modifier(const uint8_t *sample, size_t sample_len, size_t from);
 
 #ifdef __cplusplus
 }

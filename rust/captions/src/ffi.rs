@@ -90,6 +90,22 @@ pub struct CaptionsStyle {
 }
 
 #[repr(C)]
+#[derive(Clone, Copy)]
+pub struct CaptionsModifier {
+    pub found: bool,
+    pub kind: u32,
+    pub first: u32,
+    pub second: u32,
+    pub third: u32,
+    pub fourth: u32,
+    pub from: usize,
+    pub end: usize,
+    pub alternativefrom: usize,
+    pub alternativeend: usize,
+    pub next: usize,
+}
+
+#[repr(C)]
 #[derive(Clone, Copy, Debug, PartialEq, Eq)]
 pub struct CaptionsTextBox {
     pub who: u32,
@@ -175,6 +191,12 @@ extern "C" {
         sample_len: usize,
         k: usize,
     ) -> CaptionsStyle;
+    pub fn captions_modifiers_from(sample: *const u8, sample_len: usize) -> usize;
+    pub fn captions_next_modifier(
+        sample: *const u8,
+        sample_len: usize,
+        from: usize,
+    ) -> CaptionsModifier;
     pub fn captions_text_box(
         entry: *const u8,
         entry_len: usize,

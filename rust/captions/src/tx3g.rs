@@ -2,6 +2,7 @@
 
 use std::error::Error;
 use std::fmt::{self, Display};
+use std::ops::Range;
 
 use crate::refusal::judged;
 use crate::{ffi, Reason, Refusal};
@@ -120,4 +121,73 @@ pub fn text_box<'a>(entry: &'a [u8], sample: &'a [u8]) -> Result<TextBox<'a>, Tx
     let offset = found.offset;
     let bytes = &whole[offset..offset + 8];
     Ok(TextBox { who, offset, bytes })
+}
+
+/// A modifier of a good sample. Its parts are places in the sample.
+#[derive(Clone, Debug, PartialEq, Eq)]
+pub enum Modifier {
+    /// Style records of twelve bytes each.
+    Styles(Range<usize>),
+    Highlight {
+        start: u16,
+        end: u16,
+    },
+    Blink {
+        start: u16,
+        end: u16,
+    },
+    /// Red, green, blue, alpha.
+    Colour([u8; 4]),
+    /// Karaoke entries of eight bytes each: end time, start, end.
+    Karaoke {
+        time: u32,
+        entries: Range<usize>,
+    },
+    Delay(u32),
+    Link {
+        start: u16,
+        end: u16,
+        url: Range<usize>,
+        alternative: Range<usize>,
+    },
+    /// The eight bytes of a text box.
+    TextBox(Range<usize>),
+    Wrap(u8),
+}
+
+/// The modifiers of a good sample from left to right; other boxes are passed over.
+pub fn modifiers(sample: &[u8]) -> impl Iterator<Item = Modifier> + '_ {
+    // SAFETY: pointer and length of a slice.
+    let mut at = unsafe { ffi::captions_modifiers_from(sample.as_ptr(), sample.len()) };
+    std::iter::from_fn(move || {
+        // SAFETY: pointer and length of a slice.
+        let found = unsafe { ffi::captions_next_modifier(sample.as_ptr(), sample.len(), at) };
+        at = found.next;
+        found.found.then(|| modifier(&found))
+    })
+}
+
+/// Each number has the bytes of its field, so none is cut short here.
+fn modifier(m: &ffi::CaptionsModifier) -> Modifier {
+    let (start, end) = (m.first as u16, m.second as u16);
+    let records = |count: u32, size: usize| m.from..m.from + count as usize * size;
+    match &m.kind.to_be_bytes() {
+        b"styl" => Modifier::Styles(records(m.first, 12)),
+        b"hlit" => Modifier::Highlight { start, end },
+        b"blnk" => Modifier::Blink { start, end },
+        b"hclr" => Modifier::Colour([m.first, m.second, m.third, m.fourth].map(|part| part as u8)),
+        b"krok" => Modifier::Karaoke {
+            time: m.first,
+            entries: records(m.second, 8),
+        },
+        b"dlay" => Modifier::Delay(m.first),
+        b"href" => Modifier::Link {
+            start,
+            end,
+            url: m.from..m.end,
+            alternative: m.alternativefrom..m.alternativeend,
+        },
+        b"tbox" => Modifier::TextBox(m.from..m.from + 8),
+        _ => Modifier::Wrap(m.first as u8),
+    }
 }

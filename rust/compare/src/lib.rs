@@ -3,9 +3,8 @@
 
 use std::hint::black_box;
 
-use captions_harness::Packed;
-use captions_harness::Unpacked;
 use captions_harness::{BoxAt, Cue, Library, Offered, Refusal, Span};
+use captions_harness::{Modifier, Packed, Unpacked};
 use captions_harness::{TextBoxAt, Tx3gRefusal, Who};
 
 /// The proved library.
@@ -230,6 +229,13 @@ impl Library for Proved {
         Some(style.map(style_bytes).map_err(tx3g_refusal))
     }
 
+    fn modifiers(&self, sample: &[u8]) -> Offered<Vec<Modifier>> {
+        let found = lend([sample], |[sample]| {
+            captions::tx3g::modifiers(sample).collect::<Vec<_>>()
+        });
+        Some(found.into_iter().map(modifier).collect())
+    }
+
     fn text_box(&self, entry: &[u8], sample: &[u8]) -> Offered<Result<TextBoxAt, Tx3gRefusal>> {
         let found = lend([entry, sample], |[entry, sample]| {
             captions::tx3g::text_box(entry, sample).map(|found| TextBoxAt {
@@ -259,4 +265,38 @@ fn style_bytes(style: captions::tx3g::Style) -> [u8; 12] {
     bytes[6..8].copy_from_slice(&[face, size]);
     bytes[8..].copy_from_slice(&colour);
     bytes
+}
+
+fn modifier(m: captions::tx3g::Modifier) -> Modifier {
+    use captions::tx3g::Modifier as Found;
+    let span = |r: std::ops::Range<usize>| Span {
+        start: r.start,
+        end: r.end,
+    };
+    match m {
+        Found::Styles(styles) => Modifier::Styl {
+            styles: span(styles),
+        },
+        Found::Highlight { start, end } => Modifier::Hlit { start, end },
+        Found::Blink { start, end } => Modifier::Blnk { start, end },
+        Found::Colour(rgba) => Modifier::Hclr { rgba },
+        Found::Karaoke { time, entries } => Modifier::Krok {
+            start_time: time,
+            entries: span(entries),
+        },
+        Found::Delay(delay) => Modifier::Dlay { delay },
+        Found::Link {
+            start,
+            end,
+            url,
+            alternative,
+        } => Modifier::Href {
+            start,
+            end,
+            url: span(url),
+            alternative: span(alternative),
+        },
+        Found::TextBox(sides) => Modifier::Tbox { sides: span(sides) },
+        Found::Wrap(wrap) => Modifier::Twrp { wrap },
+    }
 }

@@ -9,18 +9,10 @@ use captions_harness::{differential, run_vectors, Model};
 const ROUNDS: u64 = 100_000;
 
 /// What the proved library does not export.
-const NOT_EXPORTED: &[&str] = &[
-    "be16",
-    "be32",
-    "modifiers",
-    "program",
-];
+const NOT_EXPORTED: &[&str] = &["be16", "be32", "program"];
 
 /// The files of vectors with rows on such operations.
-const SKIPPED_FILES: &[&str] = &[
-    "program.tsv",
-    "foreign/wvtt/*/expect.txt",
-];
+const SKIPPED_FILES: &[&str] = &["program.tsv", "foreign/wvtt/*/expect.txt"];
 
 #[test]
 fn the_vectors_agree() {
