@@ -105,7 +105,7 @@ impl List {
 }
 
 /// A list of `count` cues, of which up to about four run at once.
-pub fn list(random: &mut Random, count: usize) -> List {
+pub fn list(random: &mut Random, count: usize, rising: bool) -> List {
     let (mut records, mut pool) = (Vec::new(), Vec::new());
     let (mut start, mut t) = (0, 0);
     for id in 0..count as u32 {
@@ -125,7 +125,11 @@ pub fn list(random: &mut Random, count: usize) -> List {
         let most = random.within(20, 80);
         let payload = text(random, MIXED, most);
         let record = Record {
-            id: id.wrapping_mul(0x9E37_79B1) >> 1,
+            id: if rising {
+                id
+            } else {
+                id.wrapping_mul(0x9E37_79B1) >> 1
+            },
             start,
             end,
             offset: pool.len() as u32,
@@ -154,10 +158,13 @@ pub fn list(random: &mut Random, count: usize) -> List {
 }
 
 /// So many lists of `count` cues that there are 4,096 cues, or four lists.
-pub fn lists(count: usize) -> Vec<List> {
+/// Lists whose IDs are counted up, or stand in no order.
+pub fn lists(count: usize, rising: bool) -> Vec<List> {
     let mut random = Random::new(count as u64);
     let lists = (4096 / count).max(4);
-    (0..lists).map(|_| list(&mut random, count)).collect()
+    (0..lists)
+        .map(|_| list(&mut random, count, rising))
+        .collect()
 }
 
 /// All cues of a list in one sample.

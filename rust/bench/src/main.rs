@@ -20,11 +20,13 @@ fn main() {
     }
     println!("Medians of {RUNS} runs, the rivals in turn, each through many different inputs.");
     println!("Inputs and outputs are touched before; outputs are not cleared between calls.");
-    let lists = SIZES.map(inputs::lists);
+    let lists = SIZES.map(|count| inputs::lists(count, true));
     head("");
     for (lists, count) in lists.iter().zip(SIZES) {
         bench_lists(lists, &format!("{count} cues"));
     }
+    let lists_unordered = inputs::lists(1024, false);
+    bench_judgement(&lists_unordered, "1024 cues, IDs in no order");
     for (lists, count) in lists.iter().zip(SIZES) {
         bench_samples(lists, &format!("{count} cues"));
     }
@@ -53,9 +55,8 @@ fn accepted<T, E>(answer: Result<T, E>) -> usize {
     1
 }
 
-fn bench_lists(lists: &[List], input: &str) {
+fn bench_judgement(lists: &[List], input: &str) {
     let cues: Vec<usize> = lists.iter().map(List::cues).collect();
-    let samples: Vec<usize> = lists.iter().map(|l| l.each_sample().count()).collect();
     let times = measure(
         &cues,
         [
@@ -74,6 +75,12 @@ fn bench_lists(lists: &[List], input: &str) {
         ],
     );
     row("judge list", input, "cue", &times);
+}
+
+fn bench_lists(lists: &[List], input: &str) {
+    let cues: Vec<usize> = lists.iter().map(List::cues).collect();
+    let samples: Vec<usize> = lists.iter().map(|l| l.each_sample().count()).collect();
+    bench_judgement(lists, input);
     bench_pack(lists, input, &cues);
     let times = measure(
         &samples,

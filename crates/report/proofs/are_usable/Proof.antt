@@ -1,23 +1,17 @@
+-- `report::are_usable` meets its contract.
 use borrow.Author.Tests.{lt-leb, le-leb, not-true, not-false}
 use Rattle.report.specs.Report.{usable}
-use borrow.Author.Needs.{needs}
-use native.Mathlib.Omega.{arith}
 use Rattle.report.proofs.are_usable.Statement.{statement}
 use Rattle.report.proofs.are_usable.Tie as tie
-use Rattle.report.proofs.are_usable.Reads as reads
-use Rattle.report.proofs.are_usable.Lts as lts
 
--- src/lib.rt:41:9
 returns : tie.Need-returns
 unfolding usable
 returns c = simp (not-true (c .before .args .found) (c .if1 .taken))
 
--- src/lib.rt:44:9
 returns-2 : tie.Need-returns-2
 unfolding usable
 returns-2 c = simp (not-false (c .before .before .args .found) (c .before .if1 .left), lt-leb _ _ (c .if2 .taken))
 
--- src/lib.rt:37:1
 returns-3 : tie.Need-returns-3
 unfolding usable
 returns-3 c = simp (not-false (c .before .before .args .found) (c .before .if1 .left), le-leb _ _ (c .if2 .left))

@@ -1,3 +1,4 @@
+-- `report::put_list` meets its contract.
 use Prim.Native.Nat.{ℕ}
 use mathlib.Core.List.{List}
 use native.Mathlib.Omega.{arith}
@@ -8,39 +9,13 @@ use Rattle.report.proofs.Laws.{count-most, text-is}
 use borrow.Author.Needs.{needs}
 use Rattle.report.proofs.put_list.Statement.{statement}
 use Rattle.report.proofs.put_list.Tie as tie
-use Rattle.report.proofs.put_list.Reads as reads
-use Rattle.report.proofs.put_list.Lts as lts
-use Rattle.pack.proofs.pack.Reads as pack-reads
-use Rattle.report.proofs.put_packed.Reads as put-packed-reads
 
--- src/lib.rt:32:48
-slice-aggregate-pack : tie.Need-slice-aggregate-pack
-slice-aggregate-pack c = search needs
-
--- src/lib.rt:32:60
-slice-aggregate-pack-2 : tie.Need-slice-aggregate-pack-2
-slice-aggregate-pack-2 c = search needs
-
--- src/lib.rt:32:9
-pack-requires : tie.Need-pack-requires
-pack-requires c κs = search needs
-
--- src/lib.rt:33:24
-slice-aggregate-put-packed : tie.Need-slice-aggregate-put-packed
-slice-aggregate-put-packed c = search needs
-
--- src/lib.rt:33:5
 put-packed-requires : tie.Need-put-packed-requires
 put-packed-requires c κs = let a = c .before .before .before .before .before .before .before .before .before .before .args in
     let k = count-most (a .scale) (a .t) (a .records .now) (a .pool .now) (c .before .before .before .before .pack .result) (c .before .before .before .before .pack .ensures .0) in
     let l = c .before .before .before .before .pack .kept .1 .1 .1 .1 .0 in
     (omega arith, omega arith, omega arith)
 
--- src/lib.rt:26:1
-same-length : tie.Need-same-length
-same-length c = search needs
-
--- src/lib.rt:26:1
 returns : tie.Need-returns
 returns c = let a = c .before .before .before .before .before .before .before .before .before .before .before .before .before .args in
     let e = text-is (a .scale) (a .t) (a .records .now) (a .pool .now) (c .before .before .before .before .before .before .before .pack .result) _ (c .before .before .before .before .before .before .before .pack .last .1 .1 .1 .1 .0) (c .before .before .before .before .before .before .before .pack .ensures .0) (c .before .before .before .before .before .before .before .pack .ensures .1 .0) in
@@ -50,10 +25,10 @@ pub put-list-spec : {M : Type 1} → statement M
 put-list-spec =
     tie.close
     (tie.spec
-    slice-aggregate-pack
-    slice-aggregate-pack-2
-    pack-requires
-    slice-aggregate-put-packed
+    (λ c. search needs)
+    (λ c. search needs)
+    (λ c κs. search needs)
+    (λ c. search needs)
     put-packed-requires
-    same-length
+    (λ c. search needs)
     returns)
