@@ -104,7 +104,7 @@ same-cues scale T records pool fine large =
       end = λ i l. r i l .end;
       identifier = λ i l. r i l .identifier;
       settings = λ i l. r i l .settings;
-      payload = λ i l. r i l .payload
+      payload = λ i l. r i l .payload;
     }
 
 -- demand 2's way back: what unpacking lists is the packed list

@@ -101,7 +101,7 @@ unfolding abutting hi
 cases =
     record {
       question = holds 1000 20000 (record { id = 1; start = 11000; end = 12500; payload = [] } ∷ record { id = 2; start = 13000; end = 18000; payload = [] } ∷ record { id = 3; start = 17000; end = 20000; payload = [] } ∷ []);
-      answer = (11000 ∷ 1500 ∷ 500 ∷ 4000 ∷ 1000 ∷ 2000 ∷ []) ∷ [] ∷ (1 ∷ []) ∷ [] ∷ (2 ∷ []) ∷ (2 ∷ 3 ∷ []) ∷ (3 ∷ []) ∷ []
+      answer = (11000 ∷ 1500 ∷ 500 ∷ 4000 ∷ 1000 ∷ 2000 ∷ []) ∷ [] ∷ (1 ∷ []) ∷ [] ∷ (2 ∷ []) ∷ (2 ∷ 3 ∷ []) ∷ (3 ∷ []) ∷ [];
     }
     ∷ record { question = holds 1500 999 abutting; answer = (499 ∷ 500 ∷ 499 ∷ []) ∷ (1 ∷ []) ∷ (2 ∷ []) ∷ (3 ∷ []) ∷ [] }
     ∷ record { question = back 1500 999 abutting; answer = (333 ∷ 666 ∷ 999 ∷ []) ∷ [] }
@@ -111,8 +111,8 @@ cases =
     ∷ record {
       question = written 90000 1000 hi;
       answer = (0x00 ∷ 0x01 ∷ 0x5F ∷ 0x90 ∷ 0x00 ∷ 0x00 ∷ 0x00 ∷ 0x1E ∷ [])
-      ∷ (0x00 ∷ 0x00 ∷ 0x00 ∷ 0x1E ∷ 0x76 ∷ 0x74 ∷ 0x74 ∷ 0x63 ∷ 0x00 ∷ 0x00 ∷ 0x00 ∷ 0x0C ∷ 0x76 ∷ 0x73 ∷ 0x69 ∷ 0x64 ∷ 0x00 ∷ 0x00 ∷ 0x00 ∷ 0x07
-      ∷ 0x00 ∷ 0x00 ∷ 0x00 ∷ 0x0A ∷ 0x70 ∷ 0x61 ∷ 0x79 ∷ 0x6C ∷ 0x48 ∷ 0x69 ∷ []) ∷ []
+          ∷ (0x00 ∷ 0x00 ∷ 0x00 ∷ 0x1E ∷ 0x76 ∷ 0x74 ∷ 0x74 ∷ 0x63 ∷ 0x00 ∷ 0x00 ∷ 0x00 ∷ 0x0C ∷ 0x76 ∷ 0x73 ∷ 0x69 ∷ 0x64 ∷ 0x00 ∷ 0x00 ∷ 0x00 ∷ 0x07
+          ∷ 0x00 ∷ 0x00 ∷ 0x00 ∷ 0x0A ∷ 0x70 ∷ 0x61 ∷ 0x79 ∷ 0x6C ∷ 0x48 ∷ 0x69 ∷ []) ∷ [];
     }
     ∷ record { question = prints 90000 1000 hi; answer = (0x39 ∷ 0x30 ∷ 0x30 ∷ 0x30 ∷ 0x30 ∷ 0x20 ∷ 0x33 ∷ 0x30 ∷ 0x0A ∷ []) ∷ [] }
     ∷ record { question = characters (0xC3 ∷ 0xA9 ∷ []); answer = (1 ∷ []) ∷ [] }
