@@ -85,3 +85,47 @@ fn times_have_a_domain() {
         u64::from(u32::MAX).pow(2) / 1000
     );
 }
+
+fn answer(judged: Result<(), captions::Refusal>) -> (u32, usize) {
+    judged.map_or_else(|r| (r.reason.number(), r.place), |()| (0, 0))
+}
+
+/// As many samples and records as are allowed, and one more; an unpacked track, and the check of it, at that size.
+#[test]
+fn the_limits_are_exact() {
+    let track = |count: usize| {
+        let row = [0, 0, 0, 1, 0, 0, 0, 8];
+        (row.repeat(count), b"\0\0\0\x08vtte".repeat(count))
+    };
+    for (count, number) in [(65_536, 0), (65_537, 9)] {
+        let (table, samples) = track(count);
+        assert_eq!(answer(captions::judge_track(&table, &samples)), (number, 0));
+        let unpacked = captions::unpack(1000, &table, &samples, &mut [], &mut []);
+        let unpacked = unpacked.map(|u| assert_eq!((u.record_bytes, u.t), (0, 65_536)));
+        assert_eq!(answer(unpacked), (number, 0));
+        let checked = captions::check(1000, 65_536, &[], &[], &table, &samples);
+        assert_eq!(answer(checked), (number, 0));
+    }
+    let record = |id: u32| {
+        let times = [
+            &id.to_be_bytes()[..],
+            &id.to_be_bytes(),
+            &(id + 1).to_be_bytes(),
+        ];
+        [times.concat(), vec![0; 12]].concat()
+    };
+    for (count, number) in [(1024, 0), (1025, 9)] {
+        let records: Vec<u8> = (0..count).flat_map(record).collect();
+        let judged = captions::judge_list(1000, 2000, &records, &[]);
+        assert_eq!(answer(judged), (number, 0));
+    }
+    let identifier = |length: u16| {
+        let mut record = record(0);
+        record[16..18].copy_from_slice(&length.to_be_bytes());
+        record
+    };
+    for (length, number) in [(255, 0), (256, 9)] {
+        let judged = captions::judge_list(1000, 2000, &identifier(length), &[b'a'; 256]);
+        assert_eq!(answer(judged), (number, 0));
+    }
+}
