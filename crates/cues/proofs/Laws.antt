@@ -1,14 +1,15 @@
 -- Laws for the functions: the parts that are judged, and what the two loops over IDs show.
-use Prim.Native.Nat.{ℕ, zero, suc, _+_, _-_, _≤_, _<_}
-use mathlib.Core.Path.{_≡_, refl, sym, ap, _∙_, subst}
-use mathlib.Core.Bool.{true, false}
+use Prim.Native.Nat.{ℕ, zero, suc, _+_, _-_, _%_, _≤_, _<_}
+use mathlib.Core.Path.{_≡_, refl, sym, ap, _∙_}
+use mathlib.Core.Bool.{Bool, true, false}
 use mathlib.Core.List.{List}
 use native.Mathlib.Omega.{arith}
-use native.Mathlib.Nat.{add-zero}
 use lib.Dec.{eqb, ltb}
-use lib.ListN.{length, take, drop}
-use borrow.Author.Tests.{eq-eqb, ne-eqb, ltb-false}
-use Rattle.base.specs.Choice.{either}
+use lib.ListN.{length, take, drop, getD, set, length-set}
+use lib.Seq.{getD-set-same, getD-set-other}
+use borrow.Author.Count.{below-more}
+use borrow.Author.Tests.{eq-eqb, ne-eqb, eqb-true, eqb-false, ltb-false}
+use Rattle.base.specs.Choice.{by-test, true-false}
 use Rattle.base.specs.First.{first-none, first-some}
 use Rattle.verdict.specs.declared.Verdict.the-variants.{Fine}
 use Rattle.verdict.specs.Judgement.{refuse}
@@ -69,30 +70,26 @@ one-twice recs n i j x y l m p q e f d =
     let stood : stoodEarlier recs i ≡ true = ap found (first-some (λ k. eqb (sourceId recs k) (sourceId recs i)) i j m same f) in
     sym (ap twiceAt (first-some (stoodEarlier recs) n i l stood d))
 
--- IDs that rise from each record to the next are below all later ones
-abbrev pub Rising : List ℕ → ℕ → Type 0
-Rising recs n = (k : ℕ) → suc k < n → sourceId recs k < sourceId recs (suc k)
+-- a taken slot stays taken
+stays : (l : List Bool) (i j : ℕ) → i < length l → getD l j false ≡ true → getD (set l i true) j false ≡ true
+stays l i j h t =
+    by-test (eqb j i) (λ e. rw (eqb-true j i e) (getD-set-same l i true false h)) (λ e. getD-set-other l i j true false (eqb-false j i e) ∙ t)
 
-pub rising-more : (recs : List ℕ) (i : ℕ) → 0 < i → Rising recs i → sourceId recs (i - 1) < sourceId recs i → Rising recs (i + 1)
-rising-more recs zero h r l = λ k b. absurd (omega arith)
-rising-more recs (suc i) h r l = λ k b.
-    either (suc (suc k)) (suc i) (λ q. r k q)
-    (λ q. let e : k ≡ i = omega arith in let p : suc i - 1 ≡ i = omega arith in subst (λ (x : ℕ). sourceId recs x < sourceId recs (suc x)) (sym e) (rw p at l))
+-- the slots of the IDs of the records before i are taken
+pub record Slots (recs : List ℕ) (taken : List Bool) (i : ℕ) : Type 0 where
+  pub whole : length taken ≡ 4096
+  pub marked : (k : ℕ) → k < i → getD taken (sourceId recs k % 4096) false ≡ true
 
-rising-far : (recs : List ℕ) (n : ℕ) → Rising recs n → (d j : ℕ) → suc (j + d) < n → sourceId recs j < sourceId recs (suc (j + d))
-rising-far recs n r zero j b = rw add-zero (r j (rw add-zero at b))
-rising-far recs n r (suc d) j b =
-    let e : j + suc d ≡ suc (j + d) = omega arith in
-    rw e (omega (arith, rising-far recs n r d j (omega arith), r (suc (j + d)) (omega arith)))
+pub slots-more : (recs : List ℕ) (taken : List Bool) (i x : ℕ) → x ≡ sourceId recs i → Slots recs taken i → Slots recs (set taken (x % 4096) true) (i + 1)
+slots-more recs taken i x p s =
+    let h : x % 4096 < length taken = omega arith in
+    record {
+      whole = length-set taken (x % 4096) true ∙ s .whole;
+      marked = below-more _ i (λ k l. stays taken (x % 4096) (sourceId recs k % 4096) h (s .marked k l)) (rw (← p) (getD-set-same taken (x % 4096) true false h));
+    }
 
-pub rising-less : (recs : List ℕ) (n : ℕ) → Rising recs n → (j i : ℕ) → j < i → i < n → sourceId recs j < sourceId recs i
-rising-less recs n r j i l b =
-    let e : i ≡ suc (j + (i - suc j)) = omega arith in
-    rw e (rising-far recs n r (i - suc j) j (omega arith))
-
-pub rising-fine : (recs : List ℕ) (n : ℕ) → Rising recs n → judgeIds recs n ≡ Fine
-unfolding judgeIds stoodEarlier
-rising-fine recs n r =
-    ap twiceAt (first-none (stoodEarlier recs) n
-    (λ i b. ap found (first-none (λ k. eqb (sourceId recs k) (sourceId recs i)) i
-    (λ j a. ne-eqb (sourceId recs j) (sourceId recs i) (λ e. omega (arith, rising-less recs n r j i a b))))))
+-- an ID whose slot is free has not stood earlier
+pub free-fresh : (recs : List ℕ) (taken : List Bool) (i x : ℕ) → x ≡ sourceId recs i → Slots recs taken i → getD taken (x % 4096) false ≡ false → Fresh recs i i
+free-fresh recs taken i x p s f =
+    λ k l. ne-eqb (sourceId recs k) (sourceId recs i)
+    (λ e. true-false (getD taken (x % 4096) false) (rw (p, ← e) (s .marked k l)) f)

@@ -8,10 +8,8 @@ use times::timeline_allowed;
 use verdict::Verdict;
 use verdict::refused;
 ghost use mathlib.Core.Path.{_≡_};
-ghost use mathlib.Core.Bool.{true};
 ghost use Prim.Native.Nat.{_+_, _*_, _≤_, _<_};
 ghost use lib.ListN.{length};
-ghost use Rattle.verdict.specs.declared.Verdict.the-variants.{Fine};
 ghost use Rattle.verdict.specs.Judgement.{each};
 ghost use Rattle.cues.specs.Records.{sourceId, startMs, endMs, textOffset, identifierLength, settingsLength, payloadLength, reserved};
 ghost use Rattle.cues.specs.Records.{settingsOffset, payloadOffset, textsEnd};
@@ -209,53 +207,33 @@ fn judge_records(scale: u32, t: u32, records: &[u8], pool: &[u8], n: usize) -> V
     Verdict::Fine
 }
 
-// The search ends at the first pair found; i is the later record of it.
-fn first_twice(records: &[u8], n: usize) -> Verdict
+// 12, where an ID stands twice. The search ends at the first pair found; i is the later record of it.
+fn judge_ids(records: &[u8], n: usize) -> Verdict
     requires { ⌜ n * 24 ≤ length (now records) ⌝ }
     ensures { λ r. ⌜ r ≡ judgeIds (now (records .entry)) n ⌝ }
 {
+    // The slots of the records before i, by the ID modulo 4,096: an ID whose slot is free has not stood earlier.
+    let mut taken = [false; 4096];
     let mut i = 0;
     'search: while i < n {
         let id = source_id(records, i);
-        let mut j = 0;
-        while j < i {
-            if source_id(records, j) == id {
-                break 'search;
+        let slot = id as usize % 4096;
+        if taken[slot] {
+            let mut j = 0;
+            while j < i {
+                if source_id(records, j) == id {
+                    break 'search;
+                }
+                j += 1;
             }
-            j += 1;
         }
+        taken[slot] = true;
         i += 1;
     }
     if i < n {
         return refused(12, i);
     }
     Verdict::Fine
-}
-
-// Whether each ID is above the one before it, as in most lists: then none stands twice.
-fn ids_rise(records: &[u8], n: usize) -> bool
-    requires { ⌜ n * 24 ≤ length (now records) ⌝ }
-    ensures { λ r. ⌜ (r ≡ true → judgeIds (now (records .entry)) n ≡ Fine) ⌝ }
-{
-    let mut i = 1;
-    while i < n {
-        if source_id(records, i) <= source_id(records, i - 1) {
-            return false;
-        }
-        i += 1;
-    }
-    true
-}
-
-// 12, where an ID stands twice.
-fn judge_ids(records: &[u8], n: usize) -> Verdict
-    requires { ⌜ n * 24 ≤ length (now records) ⌝ }
-    ensures { λ r. ⌜ r ≡ judgeIds (now (records .entry)) n ⌝ }
-{
-    if ids_rise(records, n) {
-        return Verdict::Fine;
-    }
-    first_twice(records, n)
 }
 
 pub fn judge_list(scale: u32, t: u32, records: &[u8], pool: &[u8]) -> Verdict

@@ -1,20 +1,30 @@
--- Laws of specs/Fonts.antt: fonts follow each other, a found ID stays found, and a content that goes past its body.
-use Prim.Native.Nat.{ℕ, zero, suc, _+_, _-_, _*_, _≤_, _<_}
-use mathlib.Core.Path.{_≡_, refl, ap}
+-- Laws of specs/Fonts.antt: fonts follow each other, a found ID stays found, what slots tell, and a content that goes past its body.
+use Prim.Native.Nat.{ℕ, zero, suc, _+_, _-_, _*_, _%_, _≤_, _<_}
+use mathlib.Core.Path.{_≡_, refl, sym, ap, _∙_}
+use mathlib.Core.Logic.{_⊎_, inl, inr, ⊎-elim}
 use mathlib.Core.List.{List}
 use mathlib.Core.Bool.{Bool, true, false}
 use native.Mathlib.Omega.{arith}
 use native.Mathlib.Nat.{add-zero, zero-add, add-suc}
 use native.Mathlib.Numerals.{add-one}
-use lib.Dec.{ltb}
-use borrow.Author.Tests.{eq-eqb, ne-eqb, lt-ltb}
-use Rattle.base.specs.Choice.{one-of}
+use lib.ListN.{length, getD, set, replicate, length-set, getD-replicate}
+use lib.Seq.{getD-set-same, getD-set-other}
+use lib.Dec.{ltb, eqb}
+use borrow.Author.Tests.{eq-eqb, ne-eqb, eqb-true, eqb-false, lt-ltb}
+use Rattle.base.specs.Choice.{one-of, by-test}
 use Rattle.verdict.specs.declared.Verdict.the-variants.{Fine}
 use Rattle.verdict.specs.Judgement.{_gives_at_, _then_, each, refuse, both-fine}
 use Rattle.fields.specs.BigEndian.{be}
 use Rattle.bodies.specs.Bodies.{filled}
 use Rattle.bodies.proofs.Filled.{filled-fine}
-use Rattle.tx3g_fonts.specs.Fonts.{afterFont, fontAt, fontId, fontAmong, freshFont, judgeFonts}
+use Rattle.tx3g_fonts.specs.Fonts.{afterFont, fontAt, fontId, fontAmong, hasFont, fontSlots, Slotted, freshFont, judgeFonts}
+
+-- an element after a store: what was stored, or what was there
+stored : (l : List ℕ) (i j x y : ℕ) → i < length l → getD (set l i x) j 0 ≡ y → (x ≡ y) ⊎ (getD l j 0 ≡ y)
+stored l i j x y h e =
+    by-test (eqb j i)
+    (λ q. inl (sym (getD-set-same l i x 0 h) ∙ (rw (eqb-true j i q) at e)))
+    (λ q. inr (sym (getD-set-other l i j x 0 (eqb-false j i q)) ∙ e))
 
 module _ (s : List ℕ) (b : ℕ) where
   -- the first font, and the next
@@ -62,6 +72,32 @@ module _ (s : List ℕ) (b : ℕ) where
       let w : fontAmong s b (suc k) id ≡ true = rw (fontAmong, ← e, eq-eqb (be 2 s p) id q) (second (fontAmong s b k id)) in
       let r : m ≡ suc k + (m - suc k) = omega arith in
       rw r (stays (suc k) (m - suc k) id w)
+
+  -- the slots: none entered, one more, and how many
+  pub slots-zero : (slots : List ℕ) → slots ≡ fontSlots s b 0 slots
+  unfolding fontSlots
+  slots-zero slots = refl
+
+  pub slots-more : (k p id : ℕ) (slots l : List ℕ) → p ≡ fontAt s b k → id ≡ be 2 s p → l ≡ fontSlots s b k slots → set l (id % 256) id ≡ fontSlots s b (k + 1) slots
+  unfolding fontSlots fontId
+  slots-more k p id slots l e q h = rw (add-one, fontSlots, ← e, ← q, ← h)
+
+  pub slots-size : (k : ℕ) (slots : List ℕ) → length (fontSlots s b k slots) ≡ length slots
+  unfolding fontSlots
+  slots-size zero slots = refl
+  slots-size (suc k) slots = length-set (fontSlots s b k slots) (fontId s b k % 256) (fontId s b k) ∙ slots-size k slots
+
+  -- slots that begin as 65536, which is no ID: an ID that stands in its slot was entered
+  entered : (k id : ℕ) → id < 65536 → getD (fontSlots s b k (replicate 256 65536)) (id % 256) 0 ≡ id → fontAmong s b k id ≡ true
+  unfolding fontSlots fontAmong
+  entered zero id l h = absurd (omega (arith, getD-replicate {A = ℕ} 256 (id % 256) 65536 0 (omega arith)))
+  entered (suc k) id l h =
+      let w = stored (fontSlots s b k (replicate 256 65536)) (fontId s b k % 256) (id % 256) (fontId s b k) id (omega (arith, slots-size k (replicate 256 65536))) h in
+      ⊎-elim (λ e. rw (eq-eqb (fontId s b k) id e) (second (fontAmong s b k id))) (λ e. rw (entered k id l e)) w
+
+  pub slotted : Slotted s b (fontSlots s b (be 2 s b) (replicate 256 65536))
+  unfolding hasFont
+  slotted = record { size = slots-size (be 2 s b) (replicate 256 65536); found = entered (be 2 s b) }
 
   -- a font that goes past the body: bytes are missing
   pub cut : (place n k m : ℕ) → k < m → n < fontAt s b k + 3 → filled place (fontAt s b m) n ≡ refuse 1 place

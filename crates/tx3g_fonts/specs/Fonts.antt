@@ -1,7 +1,9 @@
 -- The fonts of a sample entry. Document 01, '3GPP text': `ftab` is a count (2, at most 256) and entries of ID (2), name length (1), name; IDs distinct.
-use Prim.Native.Nat.{ℕ, zero, suc, _+_}
+use Prim.Native.Nat.{ℕ, zero, suc, _+_, _%_, _<_}
+use mathlib.Core.Path.{_≡_}
 use mathlib.Core.List.{List}
-use mathlib.Core.Bool.{Bool, false}
+use mathlib.Core.Bool.{Bool, true, false}
+use lib.ListN.{length, getD, set}
 use lib.Dec.{ltb, eqb}
 use Rattle.base.specs.Choice.{one-of}
 use Rattle.verdict.specs.declared.Verdict.{Verdict}
@@ -34,6 +36,17 @@ fontAmong s b (suc k) id = one-of (fontAmong s b k id) (eqb (fontId s b k) id)
 unfoldable pub hasFont : List ℕ → ℕ → ℕ → Bool
 unfolding fontAmong
 hasFont s b id = fontAmong s b (be 2 s b) id
+
+-- a table of slots after the first k fonts are entered: each ID at its remainder by 256, a later one over an earlier
+unfoldable pub fontSlots : List ℕ → ℕ → ℕ → List ℕ → List ℕ
+unfolding fontId
+fontSlots s b zero slots = slots
+fontSlots s b (suc k) slots = set (fontSlots s b k slots) (fontId s b k % 256) (fontId s b k)
+
+-- 256 slots; an ID that stands in its slot is that of a font
+pub record Slotted (s : List ℕ) (b : ℕ) (slots : List ℕ) : Type 0 where
+  pub size : length slots ≡ 256
+  pub found : (id : ℕ) → id < 65536 → getD slots (id % 256) 0 ≡ id → hasFont s b id ≡ true
 
 -- the ID of font k has not been there
 unfoldable pub freshFont : List ℕ → ℕ → ℕ → ℕ → Verdict

@@ -5,12 +5,12 @@ use fields::get16;
 use verdict::Verdict;
 use verdict::refused;
 ghost use mathlib.Core.Path.{_≡_};
-ghost use Prim.Native.Nat.{_+_, _≤_};
+ghost use Prim.Native.Nat.{_+_, _≤_, _<_};
 ghost use lib.ListN.{length};
 ghost use Rattle.verdict.specs.Judgement.{each};
 ghost use Rattle.fields.specs.BigEndian.{be};
 ghost use Rattle.bodies.specs.Bodies.{filled};
-ghost use Rattle.tx3g_fonts.specs.Fonts.{afterFont, fontAt, fontAmong, hasFont, freshFont, judgeFonts};
+ghost use Rattle.tx3g_fonts.specs.Fonts.{afterFont, fontAt, fontAmong, hasFont, fontSlots, Slotted, freshFont, judgeFonts};
 
 // The place after the font that stands at `at`.
 fn pass_font(s: &[u8], at: usize) -> usize
@@ -44,6 +44,33 @@ pub fn has_font(s: &[u8], body: usize, id: u32) -> bool
 {
     let count = get16(s, body);
     is_among(s, body, count, id)
+}
+
+// Enters the IDs of the fonts into slots, each at its remainder by 256, so that most are found without a search.
+pub fn enter_fonts(s: &[u8], body: usize, slots: &mut [u32])
+    requires { ⌜ (fontAt (now s) body (be 2 (now s) body) ≤ length (now s)) × (length (now slots) ≡ 256) ⌝ }
+    ensures { λ _. ⌜ now (slots .exit) ≡ fontSlots (now (s .entry)) body (be 2 (now (s .entry)) body) (now (slots .entry)) ⌝ }
+{
+    let count = get16(s, body);
+    let mut at = body + 2;
+    let mut k = 0;
+    while k < count {
+        let id = get16(s, at);
+        slots[(id % 256) as usize] = id;
+        at = pass_font(s, at);
+        k += 1;
+    }
+}
+
+// The same as `has_font`, where the fonts are entered in slots: they are searched only if the ID is not in its slot.
+pub fn has_font_by_slots(s: &[u8], body: usize, slots: &[u32], id: u32) -> bool
+    requires { ⌜ (fontAt (now s) body (be 2 (now s) body) ≤ length (now s)) × Slotted (now s) body (now slots) × (id < 65536) ⌝ }
+    ensures { λ r. ⌜ r ≡ hasFont (now (s .entry)) body id ⌝ }
+{
+    if slots[(id % 256) as usize] == id {
+        return true;
+    }
+    has_font(s, body, id)
 }
 
 // Whether the fonts fill the body.

@@ -9,7 +9,8 @@ use tx3g_contents::TBOX;
 use tx3g_contents::TWRP;
 use tx3g_contents::is_ranged;
 use tx3g_contents::judge_content;
-use tx3g_fonts::has_font;
+use tx3g_fonts::enter_fonts;
+use tx3g_fonts::has_font_by_slots;
 use verdict::Verdict;
 use verdict::refused;
 ghost use mathlib.Core.Path.{_≡_};
@@ -19,7 +20,7 @@ ghost use lib.Dec.{leb};
 ghost use Rattle.base.specs.Choice.{both};
 ghost use Rattle.verdict.specs.Judgement.{each};
 ghost use Rattle.fields.specs.BigEndian.{be};
-ghost use Rattle.tx3g_fonts.specs.Fonts.{fontAt, hasFont};
+ghost use Rattle.tx3g_fonts.specs.Fonts.{fontAt, hasFont, Slotted};
 ghost use Rattle.tx3g_contents.specs.Contents.{stylesEnd, karaokeEnd, contentEnd};
 ghost use Rattle.tx3g_rules.specs.Rules.{inRange, rangeFault, boxFault, wrapFault, styleFault, judgeStyle, turnFault, judgeTurn, judgeRecords, judgeBody};
 
@@ -50,17 +51,18 @@ fn follows_style(s: &[u8], at: usize, previous: u32, characters: usize) -> bool
 fn judge_style(
     e: &[u8],
     fonts: usize,
+    slots: &[u32],
     s: &[u8],
     place: usize,
     previous: u32,
     at: usize,
     characters: usize,
 ) -> Verdict
-    requires { ⌜ (fontAt (now e) fonts (be 2 (now e) fonts) ≤ length (now e)) × (at + 12 ≤ length (now s)) ⌝ }
+    requires { ⌜ (fontAt (now e) fonts (be 2 (now e) fonts) ≤ length (now e)) × Slotted (now e) fonts (now slots) × (at + 12 ≤ length (now s)) ⌝ }
     ensures { λ r. ⌜ r ≡ styleFault (hasFont (now (e .entry)) fonts) characters (now (s .entry)) place previous at ⌝ }
 {
     let font = get16(s, at + 4);
-    if has_font(e, fonts, font) {
+    if has_font_by_slots(e, fonts, slots, font) {
         if follows_style(s, at, previous, characters) {
             return Verdict::Fine;
         }
@@ -69,7 +71,7 @@ fn judge_style(
     refused(8, place)
 }
 
-// The styles of a `styl`, one after the other.
+// The styles of a `styl`, one after the other. The fonts are entered in slots first, so that a style's is mostly found at once.
 fn judge_styles(
     e: &[u8],
     fonts: usize,
@@ -81,12 +83,15 @@ fn judge_styles(
     requires { ⌜ (fontAt (now e) fonts (be 2 (now e) fonts) ≤ length (now e)) × (stylesEnd (now s) body ≤ length (now s)) ⌝ }
     ensures { λ r. ⌜ r ≡ each (judgeStyle (hasFont (now (e .entry)) fonts) characters (now (s .entry)) place body) (be 2 (now (s .entry)) body) ⌝ }
 {
+    // 65536 is no ID.
+    let mut slots = [65536u32; 256];
+    enter_fonts(e, fonts, &mut slots);
     let count = get16(s, body) as usize;
     let mut previous = 0;
     let mut k = 0;
     while k < count {
         let at = body + 2 + k * 12;
-        let v = judge_style(e, fonts, s, place, previous, at, characters);
+        let v = judge_style(e, fonts, &slots, s, place, previous, at, characters);
         let Verdict::Fine = v else {
             return v;
         };
