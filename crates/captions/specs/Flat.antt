@@ -8,8 +8,8 @@ use Rattle.verdict.specs.declared.Verdict.{Verdict}
 use Rattle.verdict.specs.declared.Verdict.the-variants.{Fine, Refused}
 use Rattle.boxes.specs.declared.Step.{Step}
 use Rattle.boxes.specs.declared.Step.the-variants.{Box, Refused as Stopped, End as NoBox}
-use Rattle.text.specs.declared.Counted.{Counted}
-use Rattle.text.specs.declared.Counted.the-variants.{Characters, Bad}
+use Rattle.characters.specs.declared.Counted.{Counted}
+use Rattle.characters.specs.declared.Counted.the-variants.{Characters, Bad}
 use Rattle.wvtt_cues.specs.declared.Held.{Held}
 use Rattle.wvtt_cues.specs.declared.Held.the-variants.{Cue, End}
 use Rattle.times.specs.Times.{back}

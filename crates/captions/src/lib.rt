@@ -1,7 +1,7 @@
 // The library for C and Rust: every public operation under the prefix `captions_`, answers by value.
 use boxes::Step;
+use characters::Counted;
 use pack::Packed;
-use text::Counted;
 use tx3g_box::Spot;
 use tx3g_modifiers::Held as Modified;
 use tx3g_modifiers::Modifier;
@@ -13,9 +13,9 @@ use wvtt_cues::Held;
 ghost use mathlib.Core.Path.{_≡_};
 ghost use Prim.Native.Nat.{_+_};
 ghost use lib.ListN.{length};
-ghost use Rattle.text.specs.Utf8.{utf8};
+ghost use Rattle.utf8.specs.Utf8.{utf8};
 ghost use Rattle.text.specs.Rules.{identifierText, payloadText, configurationText, labelText};
-ghost use Rattle.text.specs.Characters.{charactersOf};
+ghost use Rattle.characters.specs.Characters.{charactersOf};
 ghost use Rattle.boxes.specs.Boxes.{stepAt, boxesIn};
 ghost use Rattle.times.specs.Times.{tick};
 ghost use Rattle.wvtt.specs.Sample.{judgeSample};
@@ -484,7 +484,7 @@ pub extern "C" fn captions_is_label(text: &[u8]) -> bool
 pub extern "C" fn captions_count_characters(text: &[u8]) -> CaptionsCount
     ensures { λ r. ⌜ r ≡ flatCount (charactersOf (now (text .entry))) ⌝ }
 {
-    flat_count(text::count_characters(text))
+    flat_count(characters::count_characters(text))
 }
 
 // The box at `at`, in a container that ends with the bytes.

@@ -5,10 +5,11 @@ use Rattle.base.specs.First.{firstFrom, first}
 use Rattle.base.specs.Over.{over, wrote}
 use Rattle.verdict.specs.Judgement.{fault, each}
 use Rattle.fields.specs.BigEndian.{be, bytes}
-use Rattle.text.specs.Characters.{isTail, firsts, isHigh, isLow, utf16, firstUnits, countIf, mark, charactersOf}
-use Rattle.text.specs.Rules.{notInLine, notInPayload, identifierText, payloadText, labelText, webvtt, configurationText}
-use Rattle.text.specs.Strings.{startsWith, startsWithAny, hasAny, endsIn, beginsLine, endsLine}
-use Rattle.text.specs.Utf8.{rows, followIn, follow, judge, utf8, classOf, classTable}
+use Rattle.characters.specs.Characters.{isTail, firsts, isHigh, isLow, utf16, firstUnits, countIf, mark, charactersOf}
+use Rattle.utf8.specs.Forbidden.{notInLine, notInPayload}
+use Rattle.text.specs.Rules.{identifierText, payloadText, labelText, webvtt, configurationText}
+use Rattle.utf8.specs.Strings.{startsWith, startsWithAny, hasAny, endsIn, beginsLine, endsLine}
+use Rattle.utf8.specs.Utf8.{rows, followIn, follow, judge, utf8, classOf, classTable}
 use Rattle.times.specs.Times.{tick, quotientUp, back, scaleAllowed, timelineAllowed}
 use Rattle.timeline.specs.Cues.{runs, chosen, runningAt, sameId, sameBody}
 use Rattle.timeline.specs.Lists.{listed}

@@ -7,9 +7,9 @@ use lib.ListN.{length}
 use Rattle.verdict.specs.declared.Verdict.{Verdict}
 use Rattle.verdict.specs.declared.Verdict.the-variants.{Fine, Refused}
 use Rattle.fields.specs.BigEndian.{bytes}
-use Rattle.text.specs.declared.Counted.{Counted}
-use Rattle.text.specs.declared.Counted.the-variants.{Characters, Bad}
-use Rattle.text.specs.Characters.{charactersOf}
+use Rattle.characters.specs.declared.Counted.{Counted}
+use Rattle.characters.specs.declared.Counted.the-variants.{Characters, Bad}
+use Rattle.characters.specs.Characters.{charactersOf}
 use Rattle.timeline.specs.Cues.{Body}
 use Rattle.timeline.specs.Tracks.{Sample}
 use Rattle.timeline.specs.Lists.{listed}

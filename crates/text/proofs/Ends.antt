@@ -1,8 +1,8 @@
 -- The beginning and the end of a text.
+use Prim.Native.Nat.{ℕ, suc, _+_, _-_, _<_, _≤_}
 use mathlib.Core.Path.{_≡_, refl, sym, ap₂, _∙_}
 use mathlib.Core.Bool.{Bool, true, false}
 use mathlib.Core.List.{List, [], _∷_}
-use Prim.Native.Nat.{ℕ, suc, _+_, _-_, _<_, _≤_}
 use native.Mathlib.Omega.{arith}
 use native.Mathlib.Nat.{not-suc-le-zero}
 use native.Mathlib.Numerals.{add-one}
@@ -11,8 +11,8 @@ use lib.Dec.{eqb}
 use lib.ListN.{length, getD, drop, drop-of-length-le}
 use lib.Seq.{drop-cons}
 use Rattle.base.specs.Choice.{both, one-of}
-use Rattle.text.specs.Strings.{CR, LF, startsWith, endsIn, beginsLine, endsLine}
-use Rattle.text.proofs.Tests.{both-yes}
+use Rattle.base.specs.Tests.{both-yes}
+use Rattle.utf8.specs.Strings.{CR, LF, startsWith, endsIn, beginsLine, endsLine}
 
 -- the byte is CR or LF
 abbrev lineEnd : ℕ → Bool

@@ -1,11 +1,2 @@
-pub mod Tests
-pub mod Ranges
-pub mod Classes
-pub mod States
-pub mod Windows
 pub mod Ends
 pub mod Rules
-pub mod Counts
-pub mod CodePoints
-pub mod Strings
-pub mod CodePoints16

@@ -3,20 +3,9 @@ use Prim.Native.Nat.{ℕ}
 use mathlib.Core.List.{List, [], _∷_}
 use mathlib.Core.Bool.{Bool, not}
 use Rattle.base.specs.Choice.{both}
-use Rattle.text.specs.Utf8.{utf8}
-use Rattle.text.specs.Strings.{CR, LF, DASH, GREATER, startsWith, hasAny, beginsLine, endsLine}
-
--- the string `-->`
-abbrev pub arrow : List ℕ
-arrow = DASH ∷ DASH ∷ GREATER ∷ []
-
--- no zero byte, CR, LF or `-->`
-unfoldable pub notInLine : List (List ℕ)
-notInLine = (0x00 ∷ []) ∷ (CR ∷ []) ∷ (LF ∷ []) ∷ arrow ∷ []
-
--- no zero byte and no `-->`, no LF followed by LF or CR, no CR followed by CR
-unfoldable pub notInPayload : List (List ℕ)
-notInPayload = (0x00 ∷ []) ∷ arrow ∷ (LF ∷ LF ∷ []) ∷ (LF ∷ CR ∷ []) ∷ (CR ∷ CR ∷ []) ∷ []
+use Rattle.utf8.specs.Utf8.{utf8}
+use Rattle.utf8.specs.Strings.{startsWith, hasAny, beginsLine, endsLine}
+use Rattle.utf8.specs.Forbidden.{notInLine, notInPayload}
 
 -- an identifier or a settings text
 unfoldable pub identifierText : List ℕ → Bool

@@ -10,7 +10,7 @@ use borrow.Author.Tests.{ltb-false, lt-ltb, le-ltb}
 use Rattle.verdict.specs.declared.Verdict.{Verdict}
 use Rattle.verdict.specs.declared.Verdict.the-variants.{Fine, Refused}
 use Rattle.verdict.specs.Judgement.{_gives_at_, _then_, both-fine, refuse}
-use Rattle.text.specs.declared.Counted.the-variants.{Characters, Bad}
+use Rattle.characters.specs.declared.Counted.the-variants.{Characters, Bad}
 use Rattle.verdict.specs.declared.Refusal.{Refusal}
 use Rattle.bodies.specs.declared.Body.the-variants.{At}
 use Rattle.bodies.specs.Bodies.{bodyOf, filled}

@@ -9,9 +9,9 @@ use Rattle.verdict.specs.declared.Verdict.{Verdict}
 use Rattle.verdict.specs.declared.Verdict.the-variants.{Fine, Refused}
 use Rattle.verdict.specs.Judgement.{_gives_at_, _then_}
 use Rattle.fields.specs.BigEndian.{be}
-use Rattle.text.specs.declared.Counted.{Counted}
-use Rattle.text.specs.declared.Counted.the-variants.{Characters, Bad}
-use Rattle.text.specs.Characters.{charactersOf}
+use Rattle.characters.specs.declared.Counted.{Counted}
+use Rattle.characters.specs.declared.Counted.the-variants.{Characters, Bad}
+use Rattle.characters.specs.Characters.{charactersOf}
 use Rattle.boxes.specs.Boxes.{boxesIn, judged, among, part}
 use Rattle.bodies.specs.declared.Body.{Body}
 use Rattle.bodies.specs.declared.Body.the-variants.{At, Nowhere}

@@ -16,8 +16,8 @@ use Rattle.fields.specs.BigEndian.{be}
 use Rattle.text.specs.Rules.{identifierText, payloadText}
 use Rattle.boxes.specs.Boxes.{Boxes, clean, broken, box, boxesIn, judged, among, part}
 use Rattle.timeline.specs.Cues.{Body}
-use Rattle.text.specs.Utf8.{utf8, judge}
-use Rattle.text.specs.Strings.{hasAny, beginsLine, endsLine}
+use Rattle.utf8.specs.Utf8.{utf8, judge}
+use Rattle.utf8.specs.Strings.{hasAny, beginsLine, endsLine}
 use Rattle.wvtt.specs.Kinds.{vttc, vsid, iden, sttg, payl, line, single}
 use Rattle.wvtt.specs.Sample.{judgeId, judgeText, judgeBody, inCue, endCue, judgeCue, inSample, endSample, judgeSample}
 use Rattle.wvtt.specs.Sound.{Sound, AllSound}

@@ -84,6 +84,13 @@ pub fn texts(seed: u64, languages: &[&[&str]], long: bool) -> Vec<Vec<u8>> {
     (0..count).map(make).collect()
 }
 
+/// Texts of 4,095 letters, the largest payload's length.
+pub fn letters() -> Vec<Vec<u8>> {
+    let mut random = Random::new(4095);
+    let mut letter = |_| b'a' + random.below(26) as u8;
+    (0..32).map(|_| (0..4095).map(&mut letter).collect()).collect()
+}
+
 /// A cue list and its track.
 pub struct List {
     pub t: u32,

@@ -34,6 +34,7 @@ fn main() {
         bench_tx3g(&tx3g::samples(count), &format!("{count} styles"));
     }
     head(" class table ns | from_utf8 ns |");
+    bench_texts(&inputs::letters(), "4,095 letters");
     for (name, words) in inputs::LANGUAGES {
         for (long, length) in [(false, "20 to 80 bytes"), (true, "4,095 bytes")] {
             bench_texts(&inputs::texts(9, words, long), &format!("{name}, {length}"));

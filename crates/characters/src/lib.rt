@@ -1,0 +1,147 @@
+// The characters of a 3GPP text: UTF-16 after the mark FE FF, else UTF-8.
+use ascii::is_ascii;
+use text::is_utf8;
+use text::starts_with;
+ghost use mathlib.Core.Path.{_≡_};
+ghost use mathlib.Core.Bool.{false};
+ghost use Prim.Native.Nat.{_+_, _-_, _≤_};
+ghost use lib.ListN.{length, drop};
+ghost use Rattle.base.specs.Choice.{pick, within};
+ghost use Rattle.characters.specs.Characters.{isTail, firsts, isLow, sameTest, utf16, firstUnits, countIf, charactersOf};
+ghost use Rattle.characters.specs.Counting.{firstsIn};
+
+// A text's characters.
+pub enum Counted {
+    Characters(usize),
+    // Bytes that are neither UTF-8 nor UTF-16 after its mark.
+    Bad,
+}
+
+fn is_within(lo: u8, hi: u8, b: u8) -> bool
+    ensures { λ r. ⌜ r ≡ within lo hi b ⌝ }
+{
+    if b < lo {
+        return false;
+    }
+    b <= hi
+}
+
+// 1 for a byte that begins a character of UTF-8, else 0.
+fn first_byte(b: u8) -> usize
+    ensures { λ r. ⌜ (r ≡ pick (isTail b) 0 1) × (r ≤ 1) ⌝ }
+{
+    if is_within(0x80, 0xBF, b) {
+        return 0;
+    }
+    1
+}
+
+// How many of the eight bytes from i begin a character.
+fn count8(s: &[u8], i: usize) -> usize
+    requires { ⌜ i + 8 ≤ length (now s) ⌝ }
+    ensures { λ r. ⌜ (r ≡ firstsIn (now (s .entry)) i 8) × (r ≤ 8) ⌝ }
+{
+    first_byte(s[i])
+        + first_byte(s[i + 1])
+        + first_byte(s[i + 2])
+        + first_byte(s[i + 3])
+        + first_byte(s[i + 4])
+        + first_byte(s[i + 5])
+        + first_byte(s[i + 6])
+        + first_byte(s[i + 7])
+}
+
+// How many bytes from `from` on begin a character.
+fn count_from(s: &[u8], from: usize) -> usize
+    requires { ⌜ from ≤ length (now s) ⌝ }
+    ensures { λ r. ⌜ r ≡ firstsIn (now (s .entry)) from (length (now (s .entry)) - from) ⌝ }
+{
+    let mut n = 0;
+    let mut i = from;
+    while i < s.len() {
+        n += first_byte(s[i]);
+        i += 1;
+    }
+    n
+}
+
+fn count_firsts(s: &[u8]) -> usize
+    ensures { λ r. ⌜ r ≡ firsts (now (s .entry)) ⌝ }
+{
+    let mut n = 0;
+    let mut i = 0;
+    while i + 8 <= s.len() {
+        n += count8(s, i);
+        i += 8;
+    }
+    n + count_from(s, i)
+}
+
+// Whether h is the high byte of a low surrogate.
+fn is_low(h: u8) -> bool
+    ensures { λ r. ⌜ r ≡ isLow h ⌝ }
+{
+    is_within(0xDC, 0xDF, h)
+}
+
+// Whether a unit with the high byte h may stand where a low surrogate is due, or not due.
+fn is_expected(due: bool, h: u8) -> bool
+    ensures { λ r. ⌜ r ≡ sameTest (isLow h) due ⌝ }
+{
+    if is_low(h) {
+        return due;
+    }
+    !due
+}
+
+// 1 for the high byte of a unit that begins a character of UTF-16, else 0.
+fn first_unit(h: u8) -> usize
+    ensures { λ r. ⌜ (r ≡ pick (isLow h) 0 1) × (r ≤ 1) ⌝ }
+{
+    if !is_low(h) {
+        return 1;
+    }
+    0
+}
+
+// The characters of UTF-16 after its mark.
+fn count_utf16(s: &[u8]) -> Counted
+    requires { ⌜ 2 ≤ length (now s) ⌝ }
+    ensures { λ r. ⌜ r ≡ countIf (utf16 false (drop 2 (now (s .entry)))) (firstUnits (drop 2 (now (s .entry)))) ⌝ }
+{
+    let mut due = false;
+    let mut n = 0;
+    let mut i = 2;
+    while i + 1 < s.len() {
+        if !is_expected(due, s[i]) {
+            return Counted::Bad;
+        }
+        n += first_unit(s[i]);
+        due = is_within(0xD8, 0xDB, s[i]);
+        i += 2;
+    }
+    if i < s.len() {
+        return Counted::Bad;
+    }
+    if due {
+        return Counted::Bad;
+    }
+    Counted::Characters(n)
+}
+
+// The characters of a 3GPP text.
+pub fn count_characters(s: &[u8]) -> Counted
+    ensures { λ r. ⌜ r ≡ charactersOf (now (s .entry)) ⌝ }
+{
+    let mark: [u8; 2] = [0xFE, 0xFF];
+    if starts_with(s, &mark) {
+        return count_utf16(s);
+    }
+    if is_ascii(s) {
+        return Counted::Characters(s.len());
+    }
+    if is_utf8(s) {
+        return Counted::Characters(count_firsts(s));
+    }
+    Counted::Bad
+}

@@ -1,0 +1,7 @@
+pub mod Ranges
+pub mod Classes
+pub mod States
+pub mod Windows
+pub mod Keeps
+pub mod Machine
+pub mod Strings
