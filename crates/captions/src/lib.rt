@@ -21,7 +21,7 @@ ghost use Rattle.times.specs.Times.{tick};
 ghost use Rattle.wvtt.specs.Sample.{judgeSample};
 ghost use Rattle.wvtt_cues.specs.Cues.{nextCue};
 ghost use Rattle.wvtt_entry.specs.Entry.{judgeEntry};
-ghost use Rattle.cues.specs.Records.{judgeList};
+ghost use Rattle.cues.specs.Judgement.{judgeList};
 ghost use Rattle.track.specs.Track.{judgeTrack};
 ghost use Rattle.pack.specs.Packing.{packedTrack, tableBytes, samplesBytes, packedOf, after};
 ghost use Rattle.unpack.specs.Unpacking.{trackCues, unpackOf, outOf};

@@ -11,7 +11,7 @@ use lib.Seq.{drop-cons, length-take-le}
 use borrow.Author.Tests.{eq-eqb, ne-eqb}
 use Rattle.base.specs.Choice.{both, sameList, same-list, by-test}
 use Rattle.boxes.specs.Boxes.{part}
-use Rattle.cues.specs.Records.{piece}
+use Rattle.records.specs.Records.{piece}
 use Rattle.wvtt_cues.specs.declared.Part.{Part}
 use Rattle.wvtt_cues.specs.Cues.{textOf}
 

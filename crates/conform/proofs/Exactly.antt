@@ -12,7 +12,7 @@ use Rattle.timeline.specs.Tracks.{Sample, Positive}
 use Rattle.timeline.specs.Checking.{Answer, accepted, wrong, short, check, Means}
 use Rattle.timeline.proofs.Listing.{length-listed, mem-listed}
 use Rattle.timeline.proofs.Answers.{answers, accepts, differs}
-use Rattle.cues.specs.Records.{judgeList}
+use Rattle.cues.specs.Judgement.{judgeList}
 use Rattle.cues.specs.List.{cuesOf}
 use Rattle.cues.proofs.Sound.{fine-proper}
 use Rattle.track.specs.Track.{rowCount, durationOf, sampleOf, trackOf, judgeTrack}

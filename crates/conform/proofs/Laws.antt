@@ -19,7 +19,7 @@ use Rattle.timeline.specs.Cues.{Body, Cue, sameId, sameBody}
 use Rattle.timeline.specs.Tracks.{Sample}
 use Rattle.timeline.specs.Checking.{Stand as Standing, out, whole, part, standing, noneLeft, meets, matches, fits, Answer, accepted, wrong, short, onward, checkFrom, check}
 use Rattle.timeline.proofs.Listing.{length-listed, listed-at, listed-from}
-use Rattle.cues.specs.Records.{count, sourceId, startMs, endMs, identifierOf, settingsOf, payloadOf}
+use Rattle.records.specs.Records.{count, sourceId, startMs, endMs, identifierOf, settingsOf, payloadOf}
 use Rattle.cues.specs.List.{bodyOf, cueOf, cuesOf, Sound}
 use Rattle.wvtt_cues.specs.declared.Parts.{Parts}
 use Rattle.wvtt_cues.specs.declared.Held.{Held}

@@ -11,7 +11,7 @@ use Rattle.times.specs.Times.{tick}
 use Rattle.timeline.specs.Cues.{runningAt}
 use Rattle.timeline.specs.Tracks.{total, heldAt}
 use Rattle.timeline.specs.Checking.{Answer, accepted, wrong, short, check, Bad, Good}
-use Rattle.cues.specs.Records.{judgeList}
+use Rattle.cues.specs.Judgement.{judgeList}
 use Rattle.cues.specs.List.{cuesOf}
 use Rattle.track.specs.Track.{rowCount, durationOf, judgeTrack, trackOf, Readable}
 

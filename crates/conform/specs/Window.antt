@@ -7,7 +7,7 @@ use lib.ListN.{length}
 use Rattle.times.specs.Times.{tick}
 use Rattle.timeline.specs.Cues.{Body}
 use Rattle.timeline.specs.Checking.{Stand as Standing, out, whole, part, meets}
-use Rattle.cues.specs.Records.{count, startMs, endMs, textsEnd}
+use Rattle.records.specs.Records.{count, startMs, endMs, textsEnd}
 use Rattle.wvtt_cues.proofs.Walk.{heldFrom}
 use Rattle.conform.specs.declared.Stretch.{Stretch}
 use Rattle.conform.specs.declared.Window.{Window}

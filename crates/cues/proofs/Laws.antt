@@ -4,26 +4,17 @@ use mathlib.Core.Path.{_≡_, refl, sym, ap, _∙_}
 use mathlib.Core.Bool.{Bool, true, false}
 use mathlib.Core.List.{List}
 use native.Mathlib.Omega.{arith}
+use borrow.Author.Count.{below-more}
+use borrow.Author.Tests.{eq-eqb, ne-eqb, eqb-true, eqb-false, ltb-false}
 use lib.Dec.{eqb, ltb}
 use lib.ListN.{length, take, drop, getD, set, length-set}
 use lib.Seq.{getD-set-same, getD-set-other}
-use borrow.Author.Count.{below-more}
-use borrow.Author.Tests.{eq-eqb, ne-eqb, eqb-true, eqb-false, ltb-false}
 use Rattle.base.specs.Choice.{by-test, true-false}
 use Rattle.base.specs.First.{first-none, first-some}
 use Rattle.verdict.specs.declared.Verdict.the-variants.{Fine}
 use Rattle.verdict.specs.Judgement.{refuse}
-use Rattle.cues.specs.Records.{sourceId, startMs, textOffset, identifierLength, settingsOffset, settingsLength, payloadOffset, payloadLength, textsEnd, piece, pastPool, startFalls, found, stoodEarlier, twiceAt, judgeIds}
-
--- the texts stand one after the other
-pub record InOrder (recs : List ℕ) (i : ℕ) : Type 0 where
-  pub settings-at : settingsOffset recs i ≡ textOffset recs i + identifierLength recs i
-  pub payload-at : payloadOffset recs i ≡ settingsOffset recs i + settingsLength recs i
-  pub end-at : textsEnd recs i ≡ payloadOffset recs i + payloadLength recs i
-
-pub in-order : (recs : List ℕ) (i : ℕ) → InOrder recs i
-unfolding settingsOffset payloadOffset textsEnd
-in-order recs i = record { settings-at = refl; payload-at = refl; end-at = refl }
+use Rattle.records.specs.Records.{sourceId, startMs, textsEnd, piece}
+use Rattle.cues.specs.Judgement.{pastPool, startFalls, found, stoodEarlier, twiceAt, judgeIds}
 
 -- the part from x to x + n
 pub part-is : (pool : List ℕ) (a b x n : ℕ) → a ≡ x → b ≡ x + n → take (b - a) (drop a pool) ≡ piece pool x n

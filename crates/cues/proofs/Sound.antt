@@ -7,20 +7,20 @@ use mathlib.Core.Option.{Option, none, some}
 use mathlib.Core.List.{List}
 use native.Mathlib.Omega.{arith}
 use native.Mathlib.Nat.{le-refl}
+use borrow.Author.Tests.{leb-false, lt-leb, ltb-false, le-ltb, eqb-false, ne-eqb, not-false}
 use lib.Dec.{leb, ltb, eqb}
 use lib.ListN.{length}
-use borrow.Author.Tests.{leb-false, lt-leb, ltb-false, le-ltb, eqb-false, ne-eqb, not-false}
 use Rattle.base.specs.Choice.{one-of, by-test, either}
 use Rattle.base.specs.First.{orElse, firstFrom, first, first-none}
 use Rattle.text.specs.Rules.{identifierText, payloadText}
 use Rattle.times.specs.Times.{tick, timelineAllowed}
 use Rattle.times.specs.Laws.{timeline-limits, limits-timeline, tick-mono}
-use Rattle.verdict.specs.declared.Verdict.{Verdict}
 use Rattle.verdict.specs.declared.Verdict.the-variants.{Fine}
 use Rattle.verdict.specs.Judgement.{_gives_at_, both-fine, each, each-fine, each-all}
 use Rattle.timeline.specs.Cues.{Cue, Proper, Named}
 use Rattle.timeline.proofs.Listing.{length-listed, mem-listed, listed-pairs}
-use Rattle.cues.specs.Records.{count, sourceId, startMs, endMs, identifierLength, settingsLength, payloadLength, reserved, textsEnd, identifierOf, settingsOf, payloadOf, badValue, tooLong, pastPool, badText, badTime, startFalls, judgeRecord, found, stoodEarlier, twiceAt, judgeIds, judgeList}
+use Rattle.records.specs.Records.{count, sourceId, startMs, endMs, identifierLength, settingsLength, payloadLength, reserved, textsEnd, identifierOf, settingsOf, payloadOf}
+use Rattle.cues.specs.Judgement.{badValue, tooLong, pastPool, badText, badTime, startFalls, judgeRecord, found, stoodEarlier, twiceAt, judgeIds, judgeList}
 use Rattle.cues.specs.List.{bodyOf, cueOf, cuesOf, SoundRecord, Sound}
 
 -- a test that gives no fault

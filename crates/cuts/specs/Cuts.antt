@@ -9,7 +9,7 @@ use Rattle.base.specs.Choice.{both, pick}
 use Rattle.times.specs.Times.{tick}
 use Rattle.timeline.specs.Packing.{sorted}
 use Rattle.wvtt_write.specs.Written.{cueSize}
-use Rattle.cues.specs.Records.{startMs, endMs, identifierLength, settingsLength, payloadLength}
+use Rattle.records.specs.Records.{startMs, endMs, identifierLength, settingsLength, payloadLength}
 
 unfoldable pub startTick : ℕ → List ℕ → ℕ → ℕ
 startTick scale recs i = tick scale (startMs recs i)

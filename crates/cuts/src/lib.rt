@@ -1,9 +1,9 @@
 // The cuts of packing, one after the other, and the samples between them: found by a window over records whose starts never fall.
-use cues::end_ms;
-use cues::identifier_length;
-use cues::payload_length;
-use cues::settings_length;
-use cues::start_ms;
+use records::end_ms;
+use records::identifier_length;
+use records::payload_length;
+use records::settings_length;
+use records::start_ms;
 use times::tick_of;
 use wvtt_write::cue_size;
 ghost use mathlib.Core.Path.{_≡_};

@@ -23,7 +23,8 @@ use Rattle.wvtt.specs.Sample.{judgeId, judgeText, judgeBody, inCue, judgeCue, i
 use Rattle.wvtt_cues.specs.Cues.{nowhere, placed, bodyOf, placesOf, withId, partsOf, textOf, heldBy, cuesIn, sampleCues, nextCue}
 use Rattle.wvtt_write.specs.Written.{textItems, cueItems, cueBytes, cuesBytes, sampleBytes, pooled, textsSize, cueSize}
 use Rattle.cues.specs.List.{bodyOf as bodyOf-List, cueOf, cuesOf}
-use Rattle.cues.specs.Records.{count, sourceId, startMs, endMs, textOffset, identifierLength, settingsLength, payloadLength, reserved, settingsOffset, payloadOffset, textsEnd, piece, identifierOf, settingsOf, payloadOf, badValue, tooLong, pastPool, badText, badTime, startFalls, judgeRecord, stoodEarlier, judgeIds, judgeList}
+use Rattle.records.specs.Records.{count, sourceId, startMs, endMs, textOffset, identifierLength, settingsLength, payloadLength, reserved, settingsOffset, payloadOffset, textsEnd, piece, identifierOf, settingsOf, payloadOf}
+use Rattle.cues.specs.Judgement.{badValue, tooLong, pastPool, badText, badTime, startFalls, judgeRecord, stoodEarlier, judgeIds, judgeList}
 use Rattle.track.specs.Track.{rowCount, durationOf, sizeOf, offsetOf, bytesOf, judgeRow, judgeTrack, sampleOf, trackOf}
 use Rattle.pack.specs.Packing.{packedTrack, rowBytes, tableBytes, samplesBytes, roomed, packedOf}
 use Rattle.unpack_write.specs.Records.{recordBytes, recordOf, textsOf, poolTo, recordsTo, poolOf, recordsOf}

@@ -10,7 +10,8 @@ use Rattle.timeline.specs.Tracks.{Sample, Right}
 use Rattle.timeline.proofs.Packed.{honest-right}
 use Rattle.timeline.proofs.Fewest.{fewest}
 use Rattle.timeline.proofs.Listing.{length-listed, mem-listed, listed-mem}
-use Rattle.cues.specs.Records.{count, judgeList}
+use Rattle.records.specs.Records.{count}
+use Rattle.cues.specs.Judgement.{judgeList}
 use Rattle.cues.specs.List.{cuesOf}
 use Rattle.cues.proofs.Sound.{fine-proper}
 use Rattle.track.specs.Track.{rowCount, durationOf, sampleOf, trackOf, Readable}

@@ -13,7 +13,8 @@ use Rattle.characters.specs.Characters.{charactersOf}
 use Rattle.timeline.specs.Cues.{Body}
 use Rattle.timeline.specs.Tracks.{Sample}
 use Rattle.timeline.specs.Lists.{listed}
-use Rattle.cues.specs.Records.{count, endMs, judgeList}
+use Rattle.records.specs.Records.{count, endMs}
+use Rattle.cues.specs.Judgement.{judgeList}
 use Rattle.pack.specs.Packing.{packedTrack, tableBytes, samplesBytes}
 use Rattle.unpack_write.specs.Records.{recordsOf}
 use Rattle.unpack.specs.Unpacking.{trackCues}

@@ -6,7 +6,7 @@ use lib.ListN.{length}
 use Rattle.verdict.specs.declared.Verdict.the-variants.{Fine}
 use Rattle.times.specs.Times.{tick}
 use Rattle.timeline.specs.Packing.{Honest}
-use Rattle.cues.specs.Records.{judgeList}
+use Rattle.cues.specs.Judgement.{judgeList}
 use Rattle.cues.specs.List.{cuesOf}
 use Rattle.track.specs.Track.{rowCount, trackOf, Readable}
 use Rattle.pack.specs.Packing.{packedTrack, tableBytes, samplesBytes}

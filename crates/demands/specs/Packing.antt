@@ -6,7 +6,8 @@ use lib.ListN.{length}
 use Rattle.verdict.specs.declared.Verdict.the-variants.{Fine}
 use Rattle.times.specs.Times.{tick}
 use Rattle.timeline.specs.Tracks.{Sample, total, Right}
-use Rattle.cues.specs.Records.{count, judgeList}
+use Rattle.records.specs.Records.{count}
+use Rattle.cues.specs.Judgement.{judgeList}
 use Rattle.cues.specs.List.{cuesOf}
 use Rattle.track.specs.Track.{rowCount, trackOf, Readable}
 use Rattle.pack.specs.Packing.{packedTrack, tableBytes, samplesBytes}

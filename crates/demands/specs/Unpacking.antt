@@ -4,7 +4,8 @@ use mathlib.Core.Path.{_≡_}
 use mathlib.Core.List.{List}
 use lib.ListN.{length}
 use Rattle.verdict.specs.declared.Verdict.the-variants.{Fine}
-use Rattle.cues.specs.Records.{count, judgeList, sourceId, startMs, endMs, identifierOf, settingsOf, payloadOf}
+use Rattle.records.specs.Records.{count, sourceId, startMs, endMs, identifierOf, settingsOf, payloadOf}
+use Rattle.cues.specs.Judgement.{judgeList}
 use Rattle.cues.specs.List.{cuesOf}
 use Rattle.pack.specs.Packing.{packedTrack, tableBytes, samplesBytes}
 use Rattle.conform.specs.Conformance.{conformance}

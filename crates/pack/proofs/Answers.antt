@@ -12,7 +12,7 @@ use Rattle.verdict.specs.declared.Refusal.{Refusal}
 use Rattle.verdict.specs.declared.Verdict.{Verdict}
 use Rattle.verdict.specs.declared.Verdict.the-variants.{Fine, Refused as Faulty}
 use Rattle.verdict.specs.Judgement.{fault}
-use Rattle.cues.specs.Records.{judgeList}
+use Rattle.cues.specs.Judgement.{judgeList}
 use Rattle.pack.specs.declared.Packed.the-variants.{Done, Refused}
 use Rattle.pack.specs.Packing.{packedTrack, tableBytes, samplesBytes, roomed, packedOf}
 use Rattle.pack.proofs.Laws.{fine-packed, faulty-packed}

@@ -23,9 +23,10 @@ use Rattle.boxes.proofs.Written.{length-box}
 use Rattle.wvtt.specs.Kinds.{vtte, vttc}
 use Rattle.wvtt_write.specs.Written.{cueItems, cueBytes, cuesBytes, sampleBytes, pooled}
 use Rattle.wvtt_write.proofs.Laws.{length-cue}
-use Rattle.cues.specs.Records.{judgeList, sourceId, textOffset, identifierLength, settingsLength, payloadLength, settingsOffset, payloadOffset, textsEnd, piece, identifierOf, settingsOf, payloadOf}
+use Rattle.cues.specs.Judgement.{judgeList}
+use Rattle.records.specs.Records.{sourceId, textOffset, identifierLength, settingsLength, payloadLength, settingsOffset, payloadOffset, textsEnd, piece, identifierOf, settingsOf, payloadOf}
 use Rattle.cues.specs.List.{bodyOf, cueOf}
-use Rattle.cues.proofs.Laws.{in-order}
+use Rattle.records.proofs.Laws.{in-order}
 use Rattle.cuts.specs.Cuts.{startTick, endTick, runsAt, recordSize, cuesSize, orEmpty}
 use Rattle.cuts.specs.Window.{Ended, Later}
 use Rattle.cuts.proofs.Laws.{runs-started, runs-ended, runs-later, size-more, size-most, not-empty}

@@ -21,7 +21,8 @@ use Rattle.wvtt.specs.Sound.{Sound as SoundBody}
 use Rattle.wvtt_write.specs.Written.{cueBytes, cuesBytes, sampleBytes, cueSize, textsSize, anySize}
 use Rattle.wvtt_write.proofs.Laws.{length-cue}
 use Rattle.wvtt.specs.Sound.{AllSound}
-use Rattle.cues.specs.Records.{count, sourceId, judgeList}
+use Rattle.records.specs.Records.{count, sourceId}
+use Rattle.cues.specs.Judgement.{judgeList}
 use Rattle.cues.specs.List.{bodyOf, cueOf, cuesOf, SoundRecord, Sound}
 use Rattle.cues.proofs.Sound.{fine-sound, fine-proper, length-cues}
 use Rattle.track.specs.Track.{trackOf, judgeTrack, Readable}

@@ -19,7 +19,7 @@ use Rattle.timeline.proofs.Nearest.{nearest, nearest-le}
 use Rattle.timeline.proofs.Fewest.{count-stretches}
 use Rattle.timeline.proofs.Indexed.{stretch-at}
 use Rattle.wvtt_write.specs.Written.{sampleBytes}
-use Rattle.cues.specs.Records.{count, startMs, endMs}
+use Rattle.records.specs.Records.{count, startMs, endMs}
 use Rattle.cues.specs.List.{cueOf, cuesOf, Sound}
 use Rattle.cues.proofs.Sound.{starts}
 use Rattle.cuts.specs.Cuts.{startTick, endTick, ticksTo, cutsOf, cuesSize, orEmpty, bytesTo, Timed, CutAt}

@@ -13,7 +13,7 @@ use Rattle.times.specs.Times.{tick}
 use Rattle.timeline.specs.Tracks.{Sample}
 use Rattle.timeline.specs.Packing.{packed}
 use Rattle.wvtt_write.specs.Written.{sampleBytes}
-use Rattle.cues.specs.Records.{judgeList}
+use Rattle.cues.specs.Judgement.{judgeList}
 use Rattle.cues.specs.List.{cuesOf}
 use Rattle.pack.specs.declared.Packed.{Packed}
 use Rattle.pack.specs.declared.Packed.the-variants.{Done, Refused}

@@ -4,7 +4,7 @@ use mathlib.Core.List.{List}
 use lib.ListN.{length}
 use Rattle.timeline.specs.Lists.{listed}
 use Rattle.timeline.specs.Cues.{Body, runningAt}
-use Rattle.cues.specs.Records.{textsEnd}
+use Rattle.records.specs.Records.{textsEnd}
 use Rattle.cues.specs.List.{cueOf}
 
 -- the cues of the first k records that run at tick b

@@ -16,7 +16,7 @@ use Rattle.timeline.specs.Unpacking.{noCue}
 use Rattle.timeline.proofs.Listing.{length-listed, listed-at}
 use Rattle.timeline.proofs.Retimed.{retimed}
 use Rattle.wvtt.specs.Sound.{Sound as SoundBody}
-use Rattle.cues.specs.Records.{count, sourceId, startMs, endMs, textOffset, identifierLength, settingsLength, payloadLength, reserved, settingsOffset, payloadOffset, textsEnd, piece, identifierOf, settingsOf, payloadOf}
+use Rattle.records.specs.Records.{count, sourceId, startMs, endMs, textOffset, identifierLength, settingsLength, payloadLength, reserved, settingsOffset, payloadOffset, textsEnd, piece, identifierOf, settingsOf, payloadOf}
 use Rattle.cues.specs.List.{bodyOf, cueOf, cuesOf}
 use Rattle.rows.proofs.Laws.{listed-same}
 use Rattle.unpack_write.specs.Records.{recordBytes, idOf, recordOf, textsOf, poolTo, recordsTo, poolOf, recordsOf}

@@ -30,7 +30,8 @@ use Rattle.timeline.proofs.Complete.{round-trip}
 use Rattle.timeline.proofs.Retimed.{retimed, unpacked-accepted}
 use Rattle.wvtt.specs.Sound.{Sound as SoundBody}
 use Rattle.track.specs.Track.{judgeTrack, trackOf}
-use Rattle.cues.specs.Records.{count, sourceId, startMs, endMs, textOffset, settingsOffset, payloadOffset, identifierLength, settingsLength, payloadLength, piece, identifierOf, settingsOf, payloadOf, judgeList}
+use Rattle.records.specs.Records.{count, sourceId, startMs, endMs, textOffset, settingsOffset, payloadOffset, identifierLength, settingsLength, payloadLength, piece, identifierOf, settingsOf, payloadOf}
+use Rattle.cues.specs.Judgement.{judgeList}
 use Rattle.cues.specs.List.{bodyOf, cueOf, cuesOf, SoundRecord, Sound}
 use Rattle.cues.proofs.Sound.{fine-sound, sound-fine, fine-proper, fine-few, cues-named, length-cues}
 use Rattle.unpack_write.specs.Records.{idOf, recordsOf, poolOf}

@@ -3,7 +3,7 @@ use Rattle.wvtt_cues.proofs.Walk.{heldFrom}
 use Rattle.wvtt_cues.specs.Cues.{sampleCues}
 use Rattle.timeline.specs.Checking.{matches}
 use Rattle.cues.specs.List.{cuesOf}
-use Rattle.cues.specs.Records.{count}
+use Rattle.records.specs.Records.{count}
 use mathlib.Core.Path.{_≡_, _∙_, ap}
 use Prim.Native.Nat.{_-_, _≤_}
 use borrow.Author.Needs.{needs}

@@ -1,6 +1,6 @@
 use Rattle.conform.proofs.Laws.{started-more, later-here, later-none}
 use Rattle.conform.specs.Window.{Started}
-use Rattle.cues.specs.Records.{count}
+use Rattle.records.specs.Records.{count}
 use Prim.Native.Nat.{_-_, _≤_}
 use native.Mathlib.Omega.{arith}
 use Rattle.conform.proofs.pass_started.Statement.{statement}

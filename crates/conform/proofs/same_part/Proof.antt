@@ -1,5 +1,5 @@
 use Rattle.conform.proofs.Bytes.{sameFrom, same-start, same-more, same-not, same-end}
-use Rattle.cues.specs.Records.{piece}
+use Rattle.records.specs.Records.{piece}
 use Rattle.base.specs.Choice.{sameList}
 use mathlib.Core.Path.{_≡_, _∙_}
 use Prim.Native.Nat.{_-_, _≤_}

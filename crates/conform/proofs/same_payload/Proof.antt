@@ -1,6 +1,6 @@
 use Rattle.conform.proofs.Laws.{in-records}
-use Rattle.cues.proofs.Laws.{in-order}
-use Rattle.cues.specs.Records.{payloadOf}
+use Rattle.records.proofs.Laws.{in-order}
+use Rattle.records.specs.Records.{payloadOf}
 use mathlib.Core.Path.{_∙_}
 use native.Mathlib.Omega.{arith}
 use borrow.Author.Needs.{needs}

@@ -1,6 +1,6 @@
 use Rattle.conform.proofs.Bytes.{other-length, length-piece, length-text, text-is}
 use Rattle.wvtt_cues.specs.Cues.{textOf}
-use Rattle.cues.specs.Records.{piece}
+use Rattle.records.specs.Records.{piece}
 use Rattle.base.specs.Choice.{sameList}
 use mathlib.Core.Path.{_∙_, sym, ap}
 use borrow.Author.Needs.{needs}

@@ -1,10 +1,12 @@
 -- `cues::bad_text` meets its contract, text by text.
+use mathlib.Core.Path.{_≡_, ap, _∙_}
 use native.Mathlib.Omega.{arith}
 use borrow.Author.Needs.{needs}
-use mathlib.Core.Path.{_≡_, ap, _∙_}
 use Rattle.text.specs.Rules.{identifierText, payloadText}
-use Rattle.cues.specs.Records.{badText, identifierOf, settingsOf, payloadOf}
-use Rattle.cues.proofs.Laws.{in-order, part-is}
+use Rattle.records.specs.Records.{identifierOf, settingsOf, payloadOf}
+use Rattle.records.proofs.Laws.{in-order}
+use Rattle.cues.specs.Judgement.{badText}
+use Rattle.cues.proofs.Laws.{part-is}
 use Rattle.cues.proofs.bad_text.Statement.{statement}
 use Rattle.cues.proofs.bad_text.Tie as tie
 

@@ -1,7 +1,7 @@
 -- `cues::bad_time` meets its contract, test by test.
 use borrow.Author.Needs.{needs}
 use borrow.Author.Tests.{le-leb, lt-leb, lt-ltb, le-ltb}
-use Rattle.cues.specs.Records.{badTime}
+use Rattle.cues.specs.Judgement.{badTime}
 use Rattle.cues.proofs.bad_time.Statement.{statement}
 use Rattle.cues.proofs.bad_time.Tie as tie
 

@@ -1,8 +1,8 @@
 -- `cues::judge_record` meets its contract, test by test in the order of the definition.
+use mathlib.Core.Path.{sym, _∙_}
 use native.Mathlib.Omega.{arith}
 use borrow.Author.Needs.{needs}
-use mathlib.Core.Path.{sym, _∙_}
-use Rattle.cues.specs.Records.{judgeRecord}
+use Rattle.cues.specs.Judgement.{judgeRecord}
 use Rattle.cues.proofs.Laws.{in-pool}
 use Rattle.cues.proofs.judge_record.Statement.{statement}
 use Rattle.cues.proofs.judge_record.Tie as tie

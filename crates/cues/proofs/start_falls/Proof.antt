@@ -1,6 +1,6 @@
 -- `cues::start_falls` meets its contract: the first record has none before it.
 use borrow.Author.Needs.{needs}
-use Rattle.cues.specs.Records.{startFalls}
+use Rattle.cues.specs.Judgement.{startFalls}
 use Rattle.cues.proofs.Laws.{falls-at}
 use Rattle.cues.proofs.start_falls.Statement.{statement}
 use Rattle.cues.proofs.start_falls.Tie as tie

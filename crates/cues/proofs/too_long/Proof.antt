@@ -1,7 +1,7 @@
 -- `cues::too_long` meets its contract, test by test.
 use borrow.Author.Needs.{needs}
 use borrow.Author.Tests.{lt-ltb, le-ltb}
-use Rattle.cues.specs.Records.{tooLong}
+use Rattle.cues.specs.Judgement.{tooLong}
 use Rattle.cues.proofs.too_long.Statement.{statement}
 use Rattle.cues.proofs.too_long.Tie as tie
 

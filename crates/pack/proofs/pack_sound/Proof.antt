@@ -2,7 +2,7 @@ use Rattle.pack.proofs.Turns.{sound-timed, measured}
 use Rattle.pack.specs.Packing.{packedTrack, tableBytes, samplesBytes, roomed}
 use Rattle.pack.specs.declared.Packed.the-variants.{Refused}
 use Rattle.cuts.specs.Cuts.{Timed}
-use Rattle.cues.specs.Records.{count}
+use Rattle.records.specs.Records.{count}
 use borrow.Author.Tests.{lt-ltb, le-ltb}
 use lib.ListN.{length}
 use mathlib.Core.Path.{_≡_, ap, refl, subst⁻¹}

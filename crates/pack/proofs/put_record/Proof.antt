@@ -1,6 +1,6 @@
 use Rattle.pack.proofs.Laws.{body-is, one-cue}
 use Rattle.cuts.specs.Cuts.{endTick, recordSize}
-use Rattle.cues.proofs.Laws.{in-order}
+use Rattle.records.proofs.Laws.{in-order}
 use Rattle.wvtt_write.specs.Written.{cuesBytes}
 use Rattle.base.specs.Over.{wrote, wrote-nil}
 use borrow.Author.Tests.{le-ltb, lt-ltb}

@@ -4,7 +4,7 @@ use Rattle.pack.specs.Packing.{packedTrack, tableBytes, samplesBytes}
 use Rattle.cuts.proofs.Laws.{cut-first, cut-stops, turn}
 use Rattle.cuts.specs.Window.{Ended, Started, From}
 use Rattle.cuts.specs.Cuts.{ticksTo, orEmpty, Timed, CutAt}
-use Rattle.cues.specs.Records.{count}
+use Rattle.records.specs.Records.{count}
 use Rattle.timeline.proofs.Nearest.{nearest-top}
 use Rattle.times.specs.Times.{tick}
 use Rattle.base.specs.Over.{over, over-nil}

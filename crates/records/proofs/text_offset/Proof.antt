@@ -1,8 +1,8 @@
--- `cues::text_offset` meets its contract, by the definition.
+-- `records::text_offset` meets its contract, by the definition.
 use borrow.Author.Needs.{needs}
-use Rattle.cues.specs.Records.{textOffset}
-use Rattle.cues.proofs.text_offset.Statement.{statement}
-use Rattle.cues.proofs.text_offset.Tie as tie
+use Rattle.records.specs.Records.{textOffset}
+use Rattle.records.proofs.text_offset.Statement.{statement}
+use Rattle.records.proofs.text_offset.Tie as tie
 
 returns : tie.Need-returns
 unfolding textOffset

@@ -1,8 +1,8 @@
--- `cues::payload_length` meets its contract, by the definition.
+-- `records::payload_length` meets its contract, by the definition.
 use borrow.Author.Needs.{needs}
-use Rattle.cues.specs.Records.{payloadLength}
-use Rattle.cues.proofs.payload_length.Statement.{statement}
-use Rattle.cues.proofs.payload_length.Tie as tie
+use Rattle.records.specs.Records.{payloadLength}
+use Rattle.records.proofs.payload_length.Statement.{statement}
+use Rattle.records.proofs.payload_length.Tie as tie
 
 returns : tie.Need-returns
 unfolding payloadLength

@@ -1,8 +1,8 @@
--- `cues::reserved_bytes` meets its contract, by the definition.
+-- `records::reserved_bytes` meets its contract, by the definition.
 use borrow.Author.Needs.{needs}
-use Rattle.cues.specs.Records.{reserved}
-use Rattle.cues.proofs.reserved_bytes.Statement.{statement}
-use Rattle.cues.proofs.reserved_bytes.Tie as tie
+use Rattle.records.specs.Records.{reserved}
+use Rattle.records.proofs.reserved_bytes.Statement.{statement}
+use Rattle.records.proofs.reserved_bytes.Tie as tie
 
 returns : tie.Need-returns
 unfolding reserved

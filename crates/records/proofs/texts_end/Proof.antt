@@ -1,9 +1,9 @@
--- `cues::texts_end` meets its contract: a sum that never wraps.
+-- `records::texts_end` meets its contract: a sum that never wraps.
 use native.Mathlib.Omega.{arith}
 use borrow.Author.Needs.{needs}
-use Rattle.cues.proofs.Laws.{in-order}
-use Rattle.cues.proofs.texts_end.Statement.{statement}
-use Rattle.cues.proofs.texts_end.Tie as tie
+use Rattle.records.proofs.Laws.{in-order}
+use Rattle.records.proofs.texts_end.Statement.{statement}
+use Rattle.records.proofs.texts_end.Tie as tie
 
 returns : tie.Need-returns
 returns c = omega (arith, in-order (c .before .before .before .args .records .now) (c .before .before .before .args .i))

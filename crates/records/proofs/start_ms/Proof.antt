@@ -1,8 +1,8 @@
--- `cues::start_ms` meets its contract, by the definition.
+-- `records::start_ms` meets its contract, by the definition.
 use borrow.Author.Needs.{needs}
-use Rattle.cues.specs.Records.{startMs}
-use Rattle.cues.proofs.start_ms.Statement.{statement}
-use Rattle.cues.proofs.start_ms.Tie as tie
+use Rattle.records.specs.Records.{startMs}
+use Rattle.records.proofs.start_ms.Statement.{statement}
+use Rattle.records.proofs.start_ms.Tie as tie
 
 returns : tie.Need-returns
 unfolding startMs

@@ -1,8 +1,8 @@
--- `cues::settings_length` meets its contract, by the definition.
+-- `records::settings_length` meets its contract, by the definition.
 use borrow.Author.Needs.{needs}
-use Rattle.cues.specs.Records.{settingsLength}
-use Rattle.cues.proofs.settings_length.Statement.{statement}
-use Rattle.cues.proofs.settings_length.Tie as tie
+use Rattle.records.specs.Records.{settingsLength}
+use Rattle.records.proofs.settings_length.Statement.{statement}
+use Rattle.records.proofs.settings_length.Tie as tie
 
 returns : tie.Need-returns
 unfolding settingsLength

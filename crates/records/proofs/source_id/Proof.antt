@@ -1,8 +1,8 @@
--- `cues::source_id` meets its contract, by the definition.
+-- `records::source_id` meets its contract, by the definition.
 use borrow.Author.Needs.{needs}
-use Rattle.cues.specs.Records.{sourceId}
-use Rattle.cues.proofs.source_id.Statement.{statement}
-use Rattle.cues.proofs.source_id.Tie as tie
+use Rattle.records.specs.Records.{sourceId}
+use Rattle.records.proofs.source_id.Statement.{statement}
+use Rattle.records.proofs.source_id.Tie as tie
 
 returns : tie.Need-returns
 unfolding sourceId

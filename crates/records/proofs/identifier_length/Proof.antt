@@ -1,8 +1,8 @@
--- `cues::identifier_length` meets its contract, by the definition.
+-- `records::identifier_length` meets its contract, by the definition.
 use borrow.Author.Needs.{needs}
-use Rattle.cues.specs.Records.{identifierLength}
-use Rattle.cues.proofs.identifier_length.Statement.{statement}
-use Rattle.cues.proofs.identifier_length.Tie as tie
+use Rattle.records.specs.Records.{identifierLength}
+use Rattle.records.proofs.identifier_length.Statement.{statement}
+use Rattle.records.proofs.identifier_length.Tie as tie
 
 returns : tie.Need-returns
 unfolding identifierLength

@@ -1,8 +1,8 @@
--- `cues::end_ms` meets its contract, by the definition.
+-- `records::end_ms` meets its contract, by the definition.
 use borrow.Author.Needs.{needs}
-use Rattle.cues.specs.Records.{endMs}
-use Rattle.cues.proofs.end_ms.Statement.{statement}
-use Rattle.cues.proofs.end_ms.Tie as tie
+use Rattle.records.specs.Records.{endMs}
+use Rattle.records.proofs.end_ms.Statement.{statement}
+use Rattle.records.proofs.end_ms.Tie as tie
 
 returns : tie.Need-returns
 unfolding endMs
