@@ -1,4 +1,5 @@
 // The check of a track against a list of cue records. It writes nothing.
+use compare::same_bytes;
 use cues::judge_list;
 use records::end_ms;
 use records::identifier_length;
@@ -61,21 +62,6 @@ pub enum Met {
     Differs,
 }
 
-// The n bytes from two places are the same.
-fn same_part(a: &[u8], from: usize, b: &[u8], at: usize, n: usize) -> bool
-    requires { ⌜ (from + n ≤ length (now a)) × (at + n ≤ length (now b)) ⌝ }
-    ensures { λ r. ⌜ r ≡ sameList (piece (now (a .entry)) from n) (piece (now (b .entry)) at n) ⌝ }
-{
-    let mut i = 0;
-    while i < n {
-        if a[from + i] != b[at + i] {
-            return false;
-        }
-        i += 1;
-    }
-    true
-}
-
 // The n bytes of the pool from a place are the text of a part.
 fn same_text(pool: &[u8], from: usize, n: usize, s: &[u8], part: Part) -> bool
     requires { ⌜ (from + n ≤ length (now pool)) × Within (length (now s)) part ⌝ }
@@ -83,10 +69,7 @@ fn same_text(pool: &[u8], from: usize, n: usize, s: &[u8], part: Part) -> bool
 {
     let at = part.from;
     let end = part.end;
-    if end - at != n {
-        return false;
-    }
-    same_part(pool, from, s, at, n)
+    same_bytes(&pool[from..from + n], &s[at..end])
 }
 
 // The three texts of record i, each against a part of a sample.

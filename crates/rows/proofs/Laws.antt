@@ -7,12 +7,11 @@ use mathlib.Core.Option.{Option, none, some}
 use mathlib.Core.List.{List, [], _∷_, _++_}
 use native.Mathlib.Omega.{arith}
 use native.Mathlib.Nat.{add-zero, not-suc-le-zero, le-of-suc-le-suc}
-use native.Mathlib.Numerals.{add-one}
-use lib.Dec.{eqb}
-use lib.ListN.{length, take, drop, getD, set, length-append, length-drop, List·getD-append, length-set}
-use lib.Seq.{drop-cons, length-take-le, getD-take, getD-drop, getD-append-add, getD-set-same, getD-set-other, ext-getD, drop-drop, take-take, take-nil}
 use borrow.Author.Tests.{eq-eqb, ne-eqb, eqb-true, eqb-false}
-use Rattle.base.specs.Choice.{both, either, by-test, sameList, same-list, list-same}
+use lib.Dec.{eqb}
+use lib.ListN.{length, take, drop, getD, set, length-append, List·getD-append, length-set}
+use lib.Seq.{length-take-le, getD-take, getD-drop, getD-append-add, getD-set-same, getD-set-other, ext-getD, drop-drop, take-take, take-nil}
+use Rattle.base.specs.Choice.{either, by-test}
 use Rattle.base.specs.Over.{wrote}
 use Rattle.boxes.specs.Boxes.{part}
 use Rattle.timeline.specs.Lists.{listed}
@@ -200,32 +199,6 @@ missing-all tab j n id z h i l k = h i (omega arith) k
 pub id-read : (tab : List ℕ) (j id : ℕ) → getD tab (j * 9) 0 ≡ id → rowAt tab j .id ≡ id
 unfolding rowAt
 id-read tab j id e = e
-
--- ---- comparing texts
-
-pub same-lengths : (a b : List ℕ) → length a ≢ length b → sameList a b ≡ false
-same-lengths a b h = by-test (sameList a b) (λ e. absurd (h (ap length (same-list a b e)))) (λ e. e)
-
-module _ (a b : List ℕ) (i : ℕ) (q : length a ≡ length b) (h : i < length a) where
-  same-step : sameList (drop i a) (drop i b) ≡ both (eqb (getD a i 0) (getD b i 0)) (sameList (drop (suc i) a) (drop (suc i) b))
-  unfolding sameList
-  same-step = rw (drop-cons a i 0 h, drop-cons b i 0 (omega arith))
-
-  pub same-not : getD a i 0 ≢ getD b i 0 → sameList (drop i a) (drop i b) ≡ false
-  same-not n = same-step ∙ rw (ne-eqb (getD a i 0) (getD b i 0) n)
-
-  pub same-more : getD a i 0 ≡ getD b i 0 → sameList (drop (i + 1) a) (drop (i + 1) b) ≡ sameList (drop i a) (drop i b)
-  same-more e = rw add-one (sym (same-step ∙ rw (eq-eqb (getD a i 0) (getD b i 0) e)))
-
-pub same-end : (a b : List ℕ) (i : ℕ) → length a ≡ length b → length a ≤ i → sameList (drop i a) (drop i b) ≡ true
-same-end a b i q h = rw (none a h, none b (omega arith)) (list-same [])
-  where
-    none : (s : List ℕ) → length s ≤ i → drop i s ≡ []
-    none s l = go (drop i s) (rw length-drop (omega arith))
-      where
-        go : (t : List ℕ) → length t ≡ 0 → t ≡ []
-        go [] e = refl
-        go (x ∷ t) e = absurd (omega arith)
 
 -- ---- parts of a sample, as parts of all bytes
 

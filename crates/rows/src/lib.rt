@@ -1,5 +1,6 @@
 // The table of the cues that are known: nine numbers for each, its ID, its start and end ticks, and from where to where each of its
 // three texts stands in the sample bytes. Texts are compared where they stand.
+use compare::same_bytes;
 use wvtt_cues::Part;
 use wvtt_cues::Parts;
 ghost use mathlib.Core.Path.{_≡_};
@@ -95,23 +96,7 @@ pub fn new_row(parts: Parts, at: usize, b: usize, e: usize) -> Row
     }
 }
 
-// Two texts are the same.
-fn same_text(a: &[u8], b: &[u8]) -> bool
-    ensures { λ r. ⌜ r ≡ sameList (now (a .entry)) (now (b .entry)) ⌝ }
-{
-    if a.len() != b.len() {
-        return false;
-    }
-    let mut i = 0;
-    while i < a.len() {
-        if a[i] != b[i] {
-            return false;
-        }
-        i += 1;
-    }
-    true
-}
-
+// Two parts have the same bytes.
 fn same_part(samples: &[u8], x: Part, y: Part) -> bool
     requires { ⌜ (x .from ≤ x .end) × (x .end ≤ length (now samples)) × (y .from ≤ y .end) × (y .end ≤ length (now samples)) ⌝ }
     ensures { λ r. ⌜ r ≡ sameList (part (now (samples .entry)) (x .from) (x .end)) (part (now (samples .entry)) (y .from) (y .end)) ⌝ }
@@ -120,7 +105,7 @@ fn same_part(samples: &[u8], x: Part, y: Part) -> bool
     let b = x.end;
     let c = y.from;
     let d = y.end;
-    same_text(&samples[a..b], &samples[c..d])
+    same_bytes(&samples[a..b], &samples[c..d])
 }
 
 // Two rows have the same texts.

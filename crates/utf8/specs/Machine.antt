@@ -49,3 +49,7 @@ unfoldable pub plain : Rule → ℕ → Bool
 plain Any b = ascii b
 plain Line b = unmarked b
 plain Payload b = unmarked b
+
+-- the end of the block of at most eight bytes that begins at i, in a text that ends at `end`
+unfoldable pub blockEnd : ℕ → ℕ → ℕ
+blockEnd i end = pick (ltb (end - i) 8) end (i + 8)

@@ -14,7 +14,7 @@ ghost use Rattle.ascii.specs.Ascii.{all};
 ghost use Rattle.utf8.specs.Utf8.{classOf, classTable};
 ghost use Rattle.utf8.specs.Strings.{CR, LF, DASH};
 ghost use Rattle.utf8.specs.Forbidden.{notInLine, notInPayload, forbidden};
-ghost use Rattle.utf8.specs.Machine.{endsForbidden, keeps, wordTable, next, before, run, plain};
+ghost use Rattle.utf8.specs.Machine.{endsForbidden, keeps, wordTable, next, before, run, plain, blockEnd};
 
 // What a text may not hold.
 pub enum Rule {
@@ -34,6 +34,7 @@ fn class_in(classes: &[u8], b: u8) -> usize
     classes[b as usize] as usize
 }
 
+// The state after a byte of this class.
 fn next_in(words: &[u64], state: usize, class: usize) -> usize
     requires { ⌜ (now words ≡ wordTable) × (state < 9) × (class < 12) ⌝ }
     ensures { λ r. ⌜ (r ≡ next state class) × (r < 9) ⌝ }
@@ -187,7 +188,7 @@ fn pass_block(
 // The end of the block of at most eight bytes that begins at i.
 fn block_end(i: usize, end: usize) -> usize
     requires { ⌜ i < end ⌝ }
-    ensures { λ r. ⌜ (i < r) × (r ≤ end) ⌝ }
+    ensures { λ r. ⌜ (r ≡ blockEnd i end) × (i < r) × (r ≤ end) ⌝ }
 {
     if end - i < 8 {
         return end;

@@ -1,3 +1,4 @@
+-- The invariant: x is below 128 exactly if the bytes before i are.
 use Prim.Native.Nat.{_-_, _≤_}
 use mathlib.Core.Path.{_≡_, refl}
 use native.Mathlib.Numerals.{add-one}

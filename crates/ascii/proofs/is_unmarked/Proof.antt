@@ -1,3 +1,4 @@
+-- The invariant: x is 0 exactly if none of the bytes before i is a mark.
 use Prim.Native.Nat.{_-_, _≤_}
 use mathlib.Core.Path.{_≡_, refl}
 use native.Mathlib.Omega.{arith}

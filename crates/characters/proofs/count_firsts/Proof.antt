@@ -1,3 +1,4 @@
+-- The invariant: n is the count before i.
 use Prim.Native.Nat.{_+_, _-_, _≤_}
 use mathlib.Core.Path.{_≡_, refl, ap, ap₂, _∙_}
 use native.Mathlib.Nat.{zero-add}

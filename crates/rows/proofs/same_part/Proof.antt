@@ -5,7 +5,7 @@ use Rattle.rows.proofs.same_part.Tie as tie
 
 returns : tie.Need-returns
 unfolding part
-returns c = c .same-text .ensures
+returns c = c .same-bytes .ensures
 
 pub same-part-spec : {M : Type 1} → statement M
 same-part-spec =

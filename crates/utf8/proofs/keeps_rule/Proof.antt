@@ -1,3 +1,4 @@
+-- The invariant: the state is the machine's after the bytes before i, and no fault has been seen.
 use Prim.Native.Nat.{_-_, _<_, _≤_}
 use mathlib.Core.Path.{_≡_, refl, sym, ap, _∙_}
 use native.Mathlib.Omega.{arith}

@@ -1,11 +1,12 @@
+-- The invariant: the bytes from i on are the same exactly if all are.
 use Prim.Native.Nat.{_-_, _≤_}
 use mathlib.Core.Path.{_≡_, refl, sym, _∙_}
+use native.Mathlib.Omega.{arith}
 use lib.ListN.{length, drop}
 use Rattle.base.specs.Choice.{sameList}
-use Rattle.rows.proofs.Laws.{same-lengths, same-not, same-more, same-end}
-use native.Mathlib.Omega.{arith}
-use Rattle.rows.proofs.same_text.Statement.{statement}
-use Rattle.rows.proofs.same_text.Tie as tie
+use Rattle.compare.proofs.Laws.{same-lengths, same-not, same-more, same-end}
+use Rattle.compare.proofs.same_bytes.Statement.{statement}
+use Rattle.compare.proofs.same_bytes.Tie as tie
 
 abbrev Inv-loop : tie.InvT-loop
 Inv-loop a b i₀ i = (i ≤ length a) × (sameList (drop i a) (drop i b) ≡ sameList a b)
@@ -28,8 +29,8 @@ loop-again c = (omega arith, same-more (c .before .before .before .before .befor
 returns-3 : tie.Need-returns-3 Inv-loop μ-loop
 returns-3 c = sym (same-end _ _ _ (c .before .before .if1 .left) (c .loop-test .left)) ∙ c .before .loop .inv .1
 
-pub same-text-spec : {M : Type 1} → statement M
-same-text-spec =
+pub same-bytes-spec : {M : Type 1} → statement M
+same-bytes-spec =
     tie.close
     (tie.spec
     Inv-loop
