@@ -11,7 +11,7 @@ use lib.ListN.{length, getD, set, replicate, length-set, getD-replicate}
 use lib.Seq.{getD-set-same, getD-set-other}
 use lib.Dec.{ltb, eqb}
 use borrow.Author.Tests.{eq-eqb, ne-eqb, eqb-true, eqb-false, lt-ltb}
-use Rattle.base.specs.Choice.{one-of, by-test}
+use Rattle.base.specs.Choice.{one-of, by-test, true-false}
 use Rattle.verdict.specs.declared.Verdict.the-variants.{Fine}
 use Rattle.verdict.specs.Judgement.{_gives_at_, _then_, each, refuse, both-fine}
 use Rattle.fields.specs.BigEndian.{be}
@@ -20,11 +20,11 @@ use Rattle.bodies.proofs.Filled.{filled-fine}
 use Rattle.tx3g_fonts.specs.Fonts.{afterFont, fontAt, fontId, fontAmong, hasFont, fontSlots, Slotted, freshFont, judgeFonts}
 
 -- an element after a store: what was stored, or what was there
-stored : (l : List ℕ) (i j x y : ℕ) → i < length l → getD (set l i x) j 0 ≡ y → (x ≡ y) ⊎ (getD l j 0 ≡ y)
-stored l i j x y h e =
+stored : {A : Type 0} (l : List A) (i j : ℕ) (x y d : A) → i < length l → getD (set l i x) j d ≡ y → (x ≡ y) ⊎ (getD l j d ≡ y)
+stored l i j x y d h e =
     by-test (eqb j i)
-    (λ q. inl (sym (getD-set-same l i x 0 h) ∙ (rw (eqb-true j i q) at e)))
-    (λ q. inr (sym (getD-set-other l i j x 0 (eqb-false j i q)) ∙ e))
+    (λ q. inl (sym (getD-set-same l i x d h) ∙ (rw (eqb-true j i q) at e)))
+    (λ q. inr (sym (getD-set-other l i j x d (eqb-false j i q)) ∙ e))
 
 module _ (s : List ℕ) (b : ℕ) where
   -- the first font, and the next
@@ -92,7 +92,7 @@ module _ (s : List ℕ) (b : ℕ) where
   unfolding fontSlots fontAmong
   entered zero id l h = absurd (omega (arith, getD-replicate {A = ℕ} 256 (id % 256) 65536 0 (omega arith)))
   entered (suc k) id l h =
-      let w = stored (fontSlots s b k (replicate 256 65536)) (fontId s b k % 256) (id % 256) (fontId s b k) id (omega (arith, slots-size k (replicate 256 65536))) h in
+      let w = stored (fontSlots s b k (replicate 256 65536)) (fontId s b k % 256) (id % 256) (fontId s b k) id 0 (omega (arith, slots-size k (replicate 256 65536))) h in
       ⊎-elim (λ e. rw (eq-eqb (fontId s b k) id e) (second (fontAmong s b k id))) (λ e. rw (entered k id l e)) w
 
   pub slotted : Slotted s b (fontSlots s b (be 2 s b) (replicate 256 65536))
@@ -124,10 +124,27 @@ module _ (s : List ℕ) (b : ℕ) where
   cut-short place n m h = let w = fonts-from m in simp (lt-ltb n (fontAt s b m) (omega arith))
 
   -- the judgement of font k, by the look-up of its ID
-  pub fresh-new : (place k p id : ℕ) (t : Bool) → p ≡ fontAt s b k → id ≡ be 2 s p → t ≡ fontAmong s b k id → t ≡ false → freshFont s place b k ≡ Fine
+  pub fresh-new : (place k p id : ℕ) → p ≡ fontAt s b k → id ≡ be 2 s p → fontAmong s b k id ≡ false → freshFont s place b k ≡ Fine
   unfolding freshFont fontId
-  fresh-new place k p id t e q h u = rw (← e, ← q, ← h, u)
+  fresh-new place k p id e q h = rw (← e, ← q, h)
 
-  pub fresh-old : (place k p id : ℕ) (t : Bool) → p ≡ fontAt s b k → id ≡ be 2 s p → t ≡ fontAmong s b k id → t ≡ true → freshFont s place b k ≡ refuse 8 place
+  pub fresh-old : (place k p id : ℕ) → p ≡ fontAt s b k → id ≡ be 2 s p → fontAmong s b k id ≡ true → freshFont s place b k ≡ refuse 8 place
   unfolding freshFont fontId
-  fresh-old place k p id t e q h u = rw (← e, ← q, ← h, u)
+  fresh-old place k p id e q h = rw (← e, ← q, h)
+
+  -- 256 slots; an ID whose slot is free is not among the first k fonts
+  pub record Taken (k : ℕ) (taken : List Bool) : Type 0 where
+    pub whole : length taken ≡ 256
+    pub free : (id : ℕ) → getD taken (id % 256) false ≡ false → fontAmong s b k id ≡ false
+
+  pub taken-more : (k p id : ℕ) (taken : List Bool) → p ≡ fontAt s b k → id ≡ be 2 s p → Taken k taken → Taken (k + 1) (set taken (id % 256) true)
+  taken-more k p id taken e q t =
+      let h : id % 256 < length taken = omega (arith, t .whole) in
+      let same = getD-set-same taken (id % 256) true false h in
+      record {
+        whole = length-set taken (id % 256) true ∙ t .whole;
+        free = λ x f.
+            among-more k x p e
+            (⊎-elim (true-false true refl) (t .free x) (stored taken (id % 256) (x % 256) true false false h f))
+            (λ w. true-false true refl (sym same ∙ (rw (← w, ← q) at f)));
+      }

@@ -103,13 +103,19 @@ fn judge_ids(s: &[u8], place: usize, body: usize, count: u32) -> Verdict
     requires { ⌜ fontAt (now s) body count ≤ length (now s) ⌝ }
     ensures { λ r. ⌜ r ≡ each (freshFont (now (s .entry)) place body) count ⌝ }
 {
+    // The slots of the fonts before k, by the ID modulo 256: an ID whose slot is free has not stood earlier.
+    let mut taken = [false; 256];
     let mut at = body + 2;
     let mut k = 0;
     while k < count {
         let id = get16(s, at);
-        if is_among(s, body, k, id) {
-            return refused(8, place);
+        let slot = (id % 256) as usize;
+        if taken[slot] {
+            if is_among(s, body, k, id) {
+                return refused(8, place);
+            }
         }
+        taken[slot] = true;
         at = pass_font(s, at);
         k += 1;
     }
