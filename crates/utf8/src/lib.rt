@@ -196,7 +196,7 @@ fn block_end(i: usize, end: usize) -> usize
     i + 8
 }
 
-// Whether the text is UTF-8 and holds no forbidden string, in one pass that ends after the first bad byte's block.
+// Whether the text is UTF-8 and holds no forbidden string, in one pass that ends at the first bad byte.
 pub fn keeps_rule(s: &[u8], rule: Rule) -> bool
     ensures { λ r. ⌜ r ≡ keeps rule (now (s .entry)) ⌝ }
 {
