@@ -1,7 +1,8 @@
 // The characters of a 3GPP text: UTF-16 after the mark FE FF, else UTF-8.
 use ascii::is_ascii;
-use text::is_utf8;
 use text::starts_with;
+use utf8::Rule;
+use utf8::keeps_rule;
 ghost use mathlib.Core.Path.{_≡_};
 ghost use mathlib.Core.Bool.{false};
 ghost use Prim.Native.Nat.{_+_, _-_, _≤_};
@@ -140,7 +141,7 @@ pub fn count_characters(s: &[u8]) -> Counted
     if is_ascii(s) {
         return Counted::Characters(s.len());
     }
-    if is_utf8(s) {
+    if keeps_rule(s, Rule::Any) {
         return Counted::Characters(count_firsts(s));
     }
     Counted::Bad

@@ -9,6 +9,7 @@ use native.Mathlib.Nat.{add-zero, add-suc, add-assoc, zero-add}
 use borrow.Author.Tests.{eq-eqb, ne-eqb, ltb-true, ltb-false, lt-ltb, le-ltb, eqb-true, eqb-false, not-true}
 use lib.Dec.{eqb, ltb}
 use lib.ListN.{length, getD, drop}
+use Rattle.base.specs.Iter.{iter, iter-begins, iter-turn, iter-stays}
 use Rattle.base.specs.Choice.{one-of, by-test, both-left, both-right}
 use Rattle.base.specs.Tests.{one-of-yes, one-of-first, one-of-second}
 use Rattle.ascii.specs.Ascii.{ascii, mark, unmarked, all}
@@ -60,7 +61,7 @@ plain-ascii Payload b h = unmarked-ascii b h
 
 -- bytes without marks are plain under each rule
 all-ascii : (s : List ℕ) (i n : ℕ) → all unmarked s i n ≡ true → all ascii s i n ≡ true
-unfolding all
+unfolding all iter
 all-ascii s i zero h = refl
 all-ascii s i (suc n) h =
     let here = unmarked-ascii (getD s (i + n) 0) (both-right (all unmarked s i n) (unmarked (getD s (i + n) 0)) h) in
@@ -110,16 +111,11 @@ module _ (rule : Rule) (s : List ℕ) where
   unfolding step
   step-stays st i e = rw (eq-eqb st 8 e)
 
-  pub run-stays : (st i n d : ℕ) → run rule s st i n ≡ 8 → run rule s st i (n + d) ≡ 8
-  unfolding run
-  run-stays st i n zero h = rw (add-zero n) h
-  run-stays st i n (suc d) h = rw (add-suc, run) (step-stays (run rule s st i (n + d)) (i + (n + d)) (run-stays st i n d h))
-
   -- one run after another
   pub run-add : (st i m n : ℕ) → run rule s st i (m + n) ≡ run rule s (run rule s st i m) (i + m) n
-  unfolding run
+  unfolding run iter
   run-add st i m zero = rw (add-zero m)
-  run-add st i m (suc n) = rw (add-suc, run, run-add st i m n, add-assoc i m n)
+  run-add st i m (suc n) = rw (add-suc, iter, run-add st i m n, add-assoc i m n)
 
   -- from place i up to `end`, after the bytes before i
   pub run-step : (st st′ i end : ℕ) → i ≤ end → st ≡ run rule s 0 0 i → st′ ≡ run rule s st i (end - i) → st′ ≡ run rule s 0 0 end
@@ -132,19 +128,19 @@ module _ (rule : Rule) (s : List ℕ) where
   module _ (st₀ from : ℕ) where
     pub run-begins : st₀ ≡ run rule s st₀ from (from - from)
     unfolding run
-    run-begins = let e : from - from ≡ 0 = omega arith in rw e
+    run-begins = iter-begins (λ k x. step rule s x (from + k)) st₀ from
 
     pub run-turn : (st i : ℕ) → from ≤ i → st ≡ run rule s st₀ from (i - from) → step rule s st i ≡ run rule s st₀ from (i + 1 - from)
     unfolding run
     run-turn st i h e =
-        let n : i + 1 - from ≡ suc (i - from) = omega arith in
-        let m : from + (i - from) ≡ i = omega arith in
-        rw (n, run, ← e, m)
+        let m : i ≡ from + (i - from) = omega arith in
+        iter-turn (λ k x. step rule s x (from + k)) st₀ from i st (step rule s st i) h e (ap (step rule s st) m)
 
     pub run-fails : (st i end : ℕ) → from ≤ i → i < end → st ≡ run rule s st₀ from (i - from) → step rule s st i ≡ 8 → 8 ≡ run rule s st₀ from (end - from)
+    unfolding run
     run-fails st i end h l e b =
-        let n : end - from ≡ i + 1 - from + (end - (i + 1)) = omega arith in
-        rw n (sym (run-stays st₀ from (i + 1 - from) (end - (i + 1)) (sym (run-turn st i h e) ∙ b)))
+        let r : 8 ≡ run rule s st₀ from (i + 1 - from) = sym b ∙ run-turn st i h e in
+        iter-stays (λ k x. step rule s x (from + k)) st₀ (i + 1 - from) (end - from) 8 (omega arith) (λ j. step-stays 8 (from + j) refl) r
 
   -- a plain byte keeps state 0
   plain-step : (i : ℕ) → plain rule (getD s i 0) ≡ true → step rule s 0 i ≡ 0
@@ -154,7 +150,7 @@ module _ (rule : Rule) (s : List ℕ) where
       step-on 0 i (λ z. omega arith) (plain-ends rule (getD s i 0) h (before 2 s i) (before 1 s i)) ∙ ap (next 0) (ascii-class (getD s i 0) e)
 
   pub plain-run : (i n : ℕ) → all (plain rule) s i n ≡ true → run rule s 0 i n ≡ 0
-  unfolding run all
+  unfolding run all iter
   plain-run i zero h = refl
   plain-run i (suc n) h =
       let here = both-right (all (plain rule) s i n) (plain rule (getD s (i + n) 0)) h in
@@ -183,7 +179,7 @@ module _ (rule : Rule) (s : List ℕ) where
         (next-small st (classOf (getD s n 0)) (o .0) (class-small (getD s n 0) (bytes n)), turn s n st h (bytes n) (o .0) ∙ o .1, w .0, w .1 ∙ o .3))))
 
     standing : (n : ℕ) → n ≤ length s → Open (run rule s 0 0 n) n ⊎ Settled (run rule s 0 0 n)
-    unfolding run before
+    unfolding run iter before
     standing zero h = let w = windows-start rule s in inl (omega arith, start s, w .0, w .1)
     standing (suc n) h =
         elim (standing n (omega arith)) [

@@ -1,10 +1,11 @@
 -- What the private functions answer: the common part of the text rules, the tables that they are lent, and the machine that judges byte by byte.
-use Prim.Native.Nat.{ℕ, zero, suc, _+_, _-_, _*_, _/_, _%_, _^_}
+use Prim.Native.Nat.{ℕ, _+_, _-_, _*_, _/_, _%_, _^_}
 use mathlib.Core.Bool.{Bool, not}
 use mathlib.Core.List.{List, [], _∷_, map, reverse}
 use lib.Dec.{eqb, ltb}
 use lib.ListN.{getD}
 use Rattle.base.specs.Choice.{pick, both, one-of}
+use Rattle.base.specs.Iter.{iter}
 use Rattle.ascii.specs.Ascii.{ascii, unmarked}
 use Rattle.utf8.specs.Utf8.{utf8, classOf}
 use Rattle.utf8.specs.Strings.{startsWithAny, hasAny}
@@ -41,8 +42,7 @@ step rule s st i =
 
 -- the state after the n bytes from i
 unfoldable pub run : Rule → List ℕ → ℕ → ℕ → ℕ → ℕ
-run rule s st i zero = st
-run rule s st i (suc n) = step rule s (run rule s st i n) (i + n)
+run rule s st i n = iter (λ k x. step rule s x (i + k)) st n
 
 -- ASCII that ends no forbidden string, whatever stands before it
 unfoldable pub plain : Rule → ℕ → Bool
