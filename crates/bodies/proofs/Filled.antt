@@ -7,7 +7,8 @@ use native.Mathlib.Nat.{le-antisymm}
 use lib.Dec.{ltb}
 use borrow.Author.Tests.{ltb-false}
 use Rattle.verdict.specs.declared.Verdict.the-variants.{Fine}
-use Rattle.verdict.specs.Judgement.{_gives_at_, both-fine}
+use Rattle.verdict.specs.Judgement.{_gives_at_}
+use Rattle.verdict.proofs.Judgement.{both-fine}
 use Rattle.bodies.specs.Bodies.{filled}
 
 -- a judgement that says nothing

@@ -7,7 +7,8 @@ use native.Mathlib.Nat.{zero-add}
 use lib.ListN.{length, take, drop, getD, length-append}
 use lib.Seq.{drop-at, take-at, getD-take, getD-drop}
 use borrow.Author.Tests.{le-ltb, lt-leb}
-use Rattle.fields.specs.BigEndian.{be, bytes, length-bytes, be-written}
+use Rattle.fields.specs.BigEndian.{be, bytes}
+use Rattle.fields.proofs.BigEndian.{length-bytes, be-written}
 use Rattle.boxes.specs.declared.Step.the-variants.{Box}
 use Rattle.boxes.specs.Boxes.{stepAt, boxesIn, part}
 use Rattle.boxes.specs.Written.{Item, boxBytes, itemBytes, Fitting, laid}

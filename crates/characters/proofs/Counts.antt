@@ -8,7 +8,8 @@ use native.Mathlib.Numerals.{add-one, add-two}
 use lib.Dec.{eqb}
 use lib.ListN.{length, getD, drop, drop-of-length-le}
 use lib.Seq.{drop-cons}
-use Rattle.base.specs.Choice.{pick, both, both-right, true-false}
+use Rattle.base.specs.Choice.{pick, both}
+use Rattle.base.proofs.Choice.{both-right, true-false}
 use Rattle.utf8.specs.Utf8.{utf8}
 use Rattle.utf8.specs.Strings.{startsWith}
 use Rattle.characters.specs.Characters.{isTail, firsts, isHigh, isLow, sameTest, utf16, firstUnits, countIf, mark, charactersOf}

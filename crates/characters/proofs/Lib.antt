@@ -1,2 +1,3 @@
 pub mod Counts
 pub mod Firsts
+pub mod Characters

@@ -11,8 +11,9 @@ use borrow.Author.Tests.{le-leb, lt-leb, leb-true, eqb-true, ne-eqb, not-true}
 use lib.Arith.{digits-div, digits-mod}
 use lib.Dec.{eqb, leb}
 use lib.ListN.{length, replicate}
-use Rattle.base.specs.Choice.{pick, within, both-left, both-right, true-false, either, by-test}
-use Rattle.base.specs.Table.{at}
+use Rattle.base.specs.Choice.{pick, within}
+use Rattle.base.proofs.Choice.{both-left, both-right, true-false, either, by-test}
+use Rattle.base.proofs.Table.{at}
 use Rattle.utf8.specs.Utf8.{Range, Row, tail, rows, followIn, follow, onSome, judge, utf8}
 use Rattle.utf8.specs.Strings.{startsWith}
 use Rattle.characters.specs.Characters.{isTail, firsts, mark, countIf, charactersOf}

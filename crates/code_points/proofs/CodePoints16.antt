@@ -8,7 +8,8 @@ use borrow.Author.Tests.{le-leb, lt-leb, ltb-true}
 use lib.Arith.{digits-div, digits-mod}
 use lib.Dec.{ltb}
 use lib.ListN.{length}
-use Rattle.base.specs.Choice.{both, within, both-left, both-right, true-false, either, by-test}
+use Rattle.base.specs.Choice.{both, within}
+use Rattle.base.proofs.Choice.{both-left, both-right, true-false, either, by-test}
 use Rattle.characters.specs.Characters.{isHigh, isLow, sameTest, utf16, firstUnits, mark, countIf, charactersOf}
 use Rattle.utf8.specs.Strings.{startsWith}
 use Rattle.utf8.proofs.Ranges.{inside, below, above, in-range}

@@ -10,7 +10,8 @@ use borrow.Author.Tests.{eq-eqb, ne-eqb}
 use lib.Dec.{eqb}
 use lib.ListN.{length, getD, drop, drop-of-length-le}
 use lib.Seq.{drop-cons}
-use Rattle.base.specs.Choice.{both, by-test, sameList, same-list, list-same}
+use Rattle.base.specs.Choice.{both, sameList}
+use Rattle.base.proofs.Choice.{by-test, same-list, list-same}
 
 pub same-lengths : (a b : List ℕ) → length a ≢ length b → sameList a b ≡ false
 same-lengths a b h = by-test (sameList a b) (λ e. absurd (h (ap length (same-list a b e)))) (λ e. e)

@@ -6,7 +6,8 @@ use mathlib.Core.List.{List}
 use native.Mathlib.Omega.{arith}
 use lib.ListN.{length}
 use Rattle.verdict.specs.declared.Verdict.the-variants.{Fine}
-use Rattle.verdict.specs.Judgement.{refuse, placeOf, fault, both-fine}
+use Rattle.verdict.specs.Judgement.{refuse, placeOf, fault}
+use Rattle.verdict.proofs.Judgement.{both-fine}
 use Rattle.times.specs.Times.{tick}
 use Rattle.timeline.specs.Tracks.{Sample, Positive}
 use Rattle.timeline.specs.Checking.{Answer, accepted, wrong, short, check, Means}

@@ -10,10 +10,11 @@ use lib.Dec.{ltb}
 use lib.ListN.{length, drop, getD, length-drop, drop-of-length-le}
 use lib.Seq.{getD-drop}
 use borrow.Author.Tests.{le-leb, lt-leb, lt-ltb, le-ltb, eq-eqb, ne-eqb}
-use Rattle.base.specs.Choice.{pick, both, by-test, either, sameList}
+use Rattle.base.specs.Choice.{pick, both, sameList}
+use Rattle.base.proofs.Choice.{by-test, either}
 use Rattle.verdict.specs.Judgement.{refuse}
 use Rattle.times.specs.Times.{tick}
-use Rattle.times.specs.Laws.{tick-mono}
+use Rattle.times.proofs.Laws.{tick-mono}
 use Rattle.timeline.specs.Lists.{listed}
 use Rattle.timeline.specs.Cues.{Body, Cue, sameId, sameBody}
 use Rattle.timeline.specs.Tracks.{Sample}

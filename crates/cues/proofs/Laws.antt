@@ -9,8 +9,8 @@ use borrow.Author.Tests.{eq-eqb, ne-eqb, eqb-true, eqb-false, ltb-false}
 use lib.Dec.{eqb, ltb}
 use lib.ListN.{length, take, drop, getD, set, length-set}
 use lib.Seq.{getD-set-same, getD-set-other}
-use Rattle.base.specs.Choice.{by-test, true-false}
-use Rattle.base.specs.First.{first-none, first-some}
+use Rattle.base.proofs.Choice.{by-test, true-false}
+use Rattle.base.proofs.First.{first-none, first-some}
 use Rattle.verdict.specs.declared.Verdict.the-variants.{Fine}
 use Rattle.verdict.specs.Judgement.{refuse}
 use Rattle.records.specs.Records.{sourceId, startMs, textsEnd, piece}

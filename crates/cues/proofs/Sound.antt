@@ -10,13 +10,16 @@ use native.Mathlib.Nat.{le-refl}
 use borrow.Author.Tests.{leb-false, lt-leb, ltb-false, le-ltb, eqb-false, ne-eqb, not-false}
 use lib.Dec.{leb, ltb, eqb}
 use lib.ListN.{length}
-use Rattle.base.specs.Choice.{one-of, by-test, either}
-use Rattle.base.specs.First.{orElse, firstFrom, first, first-none}
+use Rattle.base.specs.Choice.{one-of}
+use Rattle.base.proofs.Choice.{by-test, either}
+use Rattle.base.specs.First.{orElse, firstFrom, first}
+use Rattle.base.proofs.First.{first-none}
 use Rattle.text.specs.Rules.{identifierText, payloadText}
 use Rattle.times.specs.Times.{tick, timelineAllowed}
-use Rattle.times.specs.Laws.{timeline-limits, limits-timeline, tick-mono}
+use Rattle.times.proofs.Laws.{timeline-limits, limits-timeline, tick-mono}
 use Rattle.verdict.specs.declared.Verdict.the-variants.{Fine}
-use Rattle.verdict.specs.Judgement.{_gives_at_, both-fine, each, each-fine, each-all}
+use Rattle.verdict.specs.Judgement.{_gives_at_, each}
+use Rattle.verdict.proofs.Judgement.{both-fine, each-fine, each-all}
 use Rattle.timeline.specs.Cues.{Cue, Proper, Named}
 use Rattle.timeline.proofs.Listing.{length-listed, mem-listed, listed-pairs}
 use Rattle.records.specs.Records.{count, sourceId, startMs, endMs, identifierLength, settingsLength, payloadLength, reserved, textsEnd, identifierOf, settingsOf, payloadOf}

@@ -10,7 +10,8 @@ use native.Mathlib.Numerals.{add-one}
 use lib.Dec.{leb, ltb}
 use lib.ListN.{length, getD, length-append}
 use borrow.Author.Tests.{lt-ltb, le-ltb, le-leb, lt-leb}
-use Rattle.base.specs.Choice.{pick, either, by-test}
+use Rattle.base.specs.Choice.{pick}
+use Rattle.base.proofs.Choice.{either, by-test}
 use Rattle.timeline.specs.Packing.{sorted}
 use Rattle.timeline.proofs.Sorting.{sorted-sorts, no-longer}
 use Rattle.timeline.proofs.Nearest.{nearest, nearest-top, nearest-append}

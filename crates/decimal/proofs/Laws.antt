@@ -1,12 +1,13 @@
 -- Laws for writing the digits of a number: the only one, or the last behind those before it.
 use Prim.Native.Nat.{ℕ, _+_, _/_, _%_, _≤_, _<_, _^_}
-use mathlib.Core.Path.{_≡_, refl, sym, ap, _∙_}
-use mathlib.Core.List.{List, [], _∷_, _++_}
+use mathlib.Core.Path.{_≡_, sym, ap, _∙_}
+use mathlib.Core.List.{List, [], _∷_}
 use native.Mathlib.Omega.{arith}
 use lib.ListN.{length, set, length-append}
-use lib.Seq.{sets}
-use Rattle.base.specs.Over.{wrote, wrote-more, sets-wrote, length-wrote}
-use Rattle.decimal.specs.Decimal.{decimal, decimal-one, decimal-more}
+use Rattle.base.specs.Over.{wrote}
+use Rattle.base.proofs.Over.{wrote-more, sets-wrote, length-wrote}
+use Rattle.decimal.specs.Decimal.{decimal}
+use Rattle.decimal.proofs.Decimal.{decimal-one, decimal-more}
 
 pub length-one : (n : ℕ) → n < 10 → length (decimal n) ≡ 1
 length-one n h = rw (decimal-one n h)

@@ -7,9 +7,11 @@ use native.Mathlib.Omega.{arith}
 use lib.Dec.{ltb}
 use lib.ListN.{length}
 use borrow.Author.Tests.{ltb-false}
-use Rattle.base.specs.Choice.{one-of, true-false}
+use Rattle.base.specs.Choice.{one-of}
+use Rattle.base.proofs.Choice.{true-false}
 use Rattle.verdict.specs.declared.Verdict.the-variants.{Fine}
-use Rattle.verdict.specs.Judgement.{_gives_at_, both-fine, not-given}
+use Rattle.verdict.specs.Judgement.{_gives_at_}
+use Rattle.verdict.proofs.Judgement.{both-fine, not-given}
 use Rattle.fields.specs.BigEndian.{be}
 use Rattle.entry_head.specs.Head.{judgeHead}
 

@@ -10,7 +10,8 @@ use native.Mathlib.Numerals.{add-one}
 use lib.Dec.{eqb, ltb, leb}
 use lib.ListN.{length, set}
 use borrow.Author.Tests.{eq-eqb, lt-ltb, le-ltb, eqb-true, eqb-false}
-use Rattle.base.specs.Choice.{pick, either, by-test}
+use Rattle.base.specs.Choice.{pick}
+use Rattle.base.proofs.Choice.{either, by-test}
 use Rattle.base.specs.Over.{wrote}
 use Rattle.timeline.specs.Lists.{listed}
 use Rattle.timeline.specs.Cues.{Cue, sameId, sameBody}

@@ -1,7 +1,7 @@
 -- Laws for reading the line: digits, a turn of the loop, and the end.
-use Prim.Native.Nat.{ℕ, _+_, _-_, _≤_, _<_}
+use Prim.Native.Nat.{ℕ, _+_, _≤_, _<_}
 use mathlib.Core.Path.{_≡_, refl, sym, ap, _∙_}
-use mathlib.Core.Bool.{Bool, true, false}
+use mathlib.Core.Bool.{true, false}
 use mathlib.Core.Logic.{⊎-elim}
 use mathlib.Core.List.{List, [], _∷_}
 use native.Mathlib.Omega.{arith}
@@ -13,11 +13,11 @@ use lib.Dec.{leb}
 use lib.ListN.{length, getD, drop, drop-of-length-le}
 use lib.Seq.{drop-cons}
 use borrow.Author.Tests.{lt-leb, le-leb, leb-true}
-use Rattle.base.specs.Choice.{within, both-left, both-right}
+use Rattle.base.specs.Choice.{within}
+use Rattle.base.proofs.Choice.{both-left}
 use Rattle.input.specs.Reading.{isDigit, stepped, fed, lineAt}
 use Rattle.input.specs.declared.Reading.{Reading}
 use Rattle.input.specs.declared.Reading.the-variants.{Start, Scale, Space, Time, Whole, Wrong}
-use Rattle.input.specs.declared.Line.{Line}
 use Rattle.input.specs.declared.Line.the-variants.{Bad}
 
 pub digit-low : (b : ℕ) → b < 48 → false ≡ isDigit b

@@ -1,8 +1,7 @@
 -- The input line, read byte by byte.
 use Prim.Native.Nat.{ℕ, _+_, _-_, _*_, min}
-use mathlib.Core.Path.{_≡_, refl}
 use mathlib.Core.Bool.{Bool}
-use mathlib.Core.List.{List, [], _∷_, _++_}
+use mathlib.Core.List.{List, [], _∷_}
 use lib.Dec.{eqb}
 use Rattle.base.specs.Choice.{pick, within}
 use Rattle.input.specs.declared.Reading.{Reading}
@@ -45,9 +44,3 @@ lineAt (Space v) = Bad
 lineAt (Time v w) = Bad
 lineAt (Whole v w) = Numbers v w
 lineAt Wrong = Bad
-
--- chunk by chunk is the same
-pub fed-append : (r : Reading) (a b : List ℕ) → fed r (a ++ b) ≡ fed (fed r a) b
-unfolding fed
-fed-append r [] b = refl
-fed-append r (x ∷ a) b = fed-append (stepped r x) a b

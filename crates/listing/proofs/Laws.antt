@@ -1,11 +1,12 @@
 -- Laws for writing the lines: one part behind the other, and one line behind the others.
 use Prim.Native.Nat.{ℕ, _+_, _≤_, _<_}
-use mathlib.Core.Path.{_≡_, refl, sym, ap, _∙_}
+use mathlib.Core.Path.{_≡_, refl, ap, _∙_}
 use mathlib.Core.List.{List, [], _∷_, _++_}
 use native.Mathlib.Omega.{arith}
 use native.Mathlib.Numerals.{add-one}
 use lib.ListN.{length, set, length-append}
-use Rattle.base.specs.Over.{over, wrote, wrote-more, over-wrote, sets-wrote, length-wrote}
+use Rattle.base.specs.Over.{over, wrote}
+use Rattle.base.proofs.Over.{wrote-more, over-wrote, sets-wrote, length-wrote}
 use Rattle.decimal.specs.Decimal.{decimal}
 use Rattle.listing.specs.Listing.{numberText, pairText, rowText, rowsText, word, refusalText}
 

@@ -11,8 +11,10 @@ use lib.Dec.{ltb}
 use lib.ListN.{length, drop, length-append, length-drop}
 use lib.Seq.{length-take-le}
 use Rattle.base.specs.Choice.{pick, keep}
-use Rattle.base.specs.Over.{wrote, wrote-more, wrote-nil}
-use Rattle.fields.specs.BigEndian.{bytes, length-bytes}
+use Rattle.base.specs.Over.{wrote}
+use Rattle.base.proofs.Over.{wrote-more, wrote-nil}
+use Rattle.fields.specs.BigEndian.{bytes}
+use Rattle.fields.proofs.BigEndian.{length-bytes}
 use Rattle.timeline.specs.Lists.{listed}
 use Rattle.timeline.specs.Cues.{Body, runs, runningAt}
 use Rattle.timeline.specs.Tracks.{Sample}

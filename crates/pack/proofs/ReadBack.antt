@@ -7,7 +7,8 @@ use native.Mathlib.Nat.{le-refl}
 use lib.ListN.{length, take, drop, getD, length-append}
 use lib.Seq.{take-suc, split-at, length-take-le, take-at, drop-at, take-all, ext-getD}
 use Rattle.verdict.specs.declared.Verdict.the-variants.{Fine}
-use Rattle.fields.specs.BigEndian.{be, bytes, length-bytes, be-written}
+use Rattle.fields.specs.BigEndian.{be, bytes}
+use Rattle.fields.proofs.BigEndian.{length-bytes, be-written}
 use Rattle.boxes.specs.Boxes.{part}
 use Rattle.timeline.specs.Lists.{listed}
 use Rattle.timeline.specs.Tracks.{Sample, blank}

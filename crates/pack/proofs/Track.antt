@@ -7,7 +7,7 @@ use mathlib.Core.Option.{Option, some}
 use mathlib.Core.List.{List, [], _∷_, List·Memᴰ, List·Memᴰ·head, List·Memᴰ·tail, List·Memᴰ·cases-cons, List·Memᴰ·not-nil}
 use native.Mathlib.Omega.{arith}
 use lib.ListN.{length, length-append}
-use Rattle.base.specs.Choice.{by-test}
+use Rattle.base.proofs.Choice.{by-test}
 use Rattle.verdict.specs.declared.Verdict.the-variants.{Fine}
 use Rattle.times.specs.Times.{tick}
 use Rattle.timeline.specs.Cues.{Body, Cue, chosen}

@@ -6,10 +6,11 @@ use native.Mathlib.Omega.{arith}
 use native.Mathlib.Numerals.{add-one}
 use lib.ListN.{length, take, drop, getD, length-append, take-append-drop}
 use lib.Seq.{take-suc, take-all, length-take-le}
-use Rattle.base.specs.Over.{over, wrote, over-wrote}
+use Rattle.base.specs.Over.{over, wrote}
+use Rattle.base.proofs.Over.{over-wrote}
 use Rattle.fields.specs.BigEndian.{bytes}
 use Rattle.times.specs.Times.{tick}
-use Rattle.times.specs.Laws.{tick-mono}
+use Rattle.times.proofs.Laws.{tick-mono}
 use Rattle.timeline.specs.Lists.{listed}
 use Rattle.timeline.specs.Cues.{Body}
 use Rattle.timeline.specs.Tracks.{Sample, blank}

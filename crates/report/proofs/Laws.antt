@@ -5,7 +5,8 @@ use mathlib.Core.List.{List, _++_}
 use native.Mathlib.Omega.{arith}
 use lib.ListN.{length, drop, length-append}
 use Rattle.base.specs.Over.{over}
-use Rattle.fields.specs.BigEndian.{be, be-front}
+use Rattle.fields.specs.BigEndian.{be}
+use Rattle.fields.proofs.BigEndian.{be-front}
 use Rattle.listing.specs.Listing.{pairText, rowText, rowsText}
 use Rattle.pack.specs.declared.Packed.{Packed}
 use Rattle.pack.specs.declared.Packed.the-variants.{Done, Refused}

@@ -11,7 +11,7 @@ use borrow.Author.Tests.{eq-eqb, ne-eqb, eqb-true, eqb-false}
 use lib.Dec.{eqb}
 use lib.ListN.{length, take, drop, getD, set, length-append, List·getD-append, length-set}
 use lib.Seq.{length-take-le, getD-take, getD-drop, getD-append-add, getD-set-same, getD-set-other, ext-getD, drop-drop, take-take, take-nil}
-use Rattle.base.specs.Choice.{either, by-test}
+use Rattle.base.proofs.Choice.{either, by-test}
 use Rattle.base.specs.Over.{wrote}
 use Rattle.boxes.specs.Boxes.{part}
 use Rattle.timeline.specs.Lists.{listed}

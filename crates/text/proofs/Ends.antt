@@ -11,7 +11,7 @@ use lib.Dec.{eqb}
 use lib.ListN.{length, getD, drop, drop-of-length-le}
 use lib.Seq.{drop-cons}
 use Rattle.base.specs.Choice.{both, one-of}
-use Rattle.base.specs.Tests.{both-yes}
+use Rattle.base.proofs.Tests.{both-yes}
 use Rattle.utf8.specs.Strings.{CR, LF, startsWith, endsIn, beginsLine, endsLine}
 
 -- the byte is CR or LF

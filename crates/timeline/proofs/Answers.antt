@@ -12,7 +12,7 @@ use lib.Dec.{leb, ltb}
 use lib.ListN.{getD, length, length-append, take}
 use lib.Seq.{append-snoc}
 use borrow.Author.Tests.{leb-false, leb-true, ltb-false, ltb-true}
-use Rattle.base.specs.Choice.{both-false, both-left, both-right, by-test, either, true-false}
+use Rattle.base.proofs.Choice.{both-false, both-left, both-right, by-test, either, true-false}
 use Rattle.timeline.specs.Cues.{Cue, Distinct, Lasting, Proper, runningAt}
 use Rattle.timeline.specs.Tracks.{Positive, Right, Sample, beginOf, blank, endOf, heldOf, total}
 use Rattle.timeline.specs.Checking.{Answer, Bad, Good, Means, accepted, check, checkFrom, fits, matches, short, wrong}

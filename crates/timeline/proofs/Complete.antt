@@ -11,7 +11,8 @@ use lib.Dec.{eqb, ltb}
 use lib.ListN.{length, length-append}
 use lib.Seq.{append-snoc}
 use borrow.Author.Tests.{le-leb, le-ltb, lt-ltb, ne-eqb}
-use Rattle.base.specs.Choice.{by-test, either, pick}
+use Rattle.base.proofs.Choice.{by-test, either}
+use Rattle.base.specs.Choice.{pick}
 use Rattle.timeline.specs.Cues.{Body, Cue, Distinct, Named, Ordered, Pairs, Proper, runningAt, runs, sameId}
 use Rattle.timeline.specs.Tracks.{Positive, Right, Sample, copy, heldAt, heldFrom, total}
 use Rattle.timeline.specs.Packing.{packed}

@@ -6,7 +6,7 @@ use mathlib.Core.List.{List, List·Memᴰ, List·Memᴰ·cases-cons, List·Mem�
 use native.Mathlib.Omega.{arith}
 use native.Mathlib.Nat.{le-of-suc-le-suc, not-suc-le-zero}
 use lib.ListN.{length, take}
-use Rattle.base.specs.Choice.{either}
+use Rattle.base.proofs.Choice.{either}
 use Rattle.timeline.specs.Cues.{Body, Cue, Proper, runningAt}
 use Rattle.timeline.specs.Tracks.{Right, Sample, There, beginOf, total}
 use Rattle.timeline.specs.Packing.{edges, heldOver, marks, packed, sorted, stretches}

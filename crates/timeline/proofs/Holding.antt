@@ -8,7 +8,7 @@ use native.Mathlib.Nat.{add-assoc, add-zero, le-of-suc-le-suc, not-suc-le-zero, 
 use lib.ListN.{getD, length, take}
 use lib.Seq.{getD-at, take-at}
 use borrow.Author.Tests.{le-leb, le-ltb, lt-ltb}
-use Rattle.base.specs.Choice.{either}
+use Rattle.base.proofs.Choice.{either}
 use Rattle.timeline.specs.Cues.{Body}
 use Rattle.timeline.specs.Tracks.{Sample, There, beginOf, blank, endOf, heldAt, heldFrom, heldOf, total}
 

@@ -6,7 +6,7 @@ use mathlib.Core.Option.{some}
 use mathlib.Core.List.{List, List·Memᴰ, List·Memᴰ·append-cases, List·Memᴰ·cases-cons, List·Memᴰ·head, List·Memᴰ·not-nil, List·Memᴰ·tail, Memᴰ·append-right, [], _++_, _∷_}
 use native.Mathlib.Omega.{arith}
 use native.Mathlib.Nat.{le-refl}
-use Rattle.base.specs.Choice.{either}
+use Rattle.base.proofs.Choice.{either}
 use Rattle.timeline.specs.Cues.{Body, Cue, Proper, runningAt}
 use Rattle.timeline.specs.Tracks.{Positive, Right, Sample, heldAt, heldFrom, total}
 use Rattle.timeline.specs.Packing.{Honest, Rising, marks, stretches}

@@ -6,7 +6,7 @@ use mathlib.Core.List.{List, List·Memᴰ, List·Memᴰ·cases-cons, List·Mem�
 use native.Mathlib.Omega.{arith}
 use native.Mathlib.Nat.{le-of-suc-le-suc, le-refl, not-suc-le-zero}
 use lib.ListN.{getD, length}
-use Rattle.base.specs.Choice.{either}
+use Rattle.base.proofs.Choice.{either}
 use Rattle.timeline.specs.Cues.{Body, Cue, Pairs}
 use Rattle.timeline.specs.Tracks.{blank}
 use Rattle.timeline.specs.Packing.{Rising, sorted, stretches}

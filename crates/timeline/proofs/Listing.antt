@@ -8,7 +8,8 @@ use native.Mathlib.Nat.{not-suc-le-zero}
 use native.Mathlib.Numerals.{add-one}
 use lib.ListN.{length, take, drop, getD, length-append, List·getD-append}
 use lib.Seq.{getD-at, drop-cons, take-length, take-append-le}
-use Rattle.base.specs.Choice.{either, keep}
+use Rattle.base.proofs.Choice.{either}
+use Rattle.base.specs.Choice.{keep}
 use Rattle.timeline.specs.Lists.{listed}
 use Rattle.timeline.specs.Cues.{Cue, Pairs, chosen}
 use Rattle.timeline.specs.Packing.{edges}

@@ -8,7 +8,8 @@ use native.Mathlib.Omega.{arith}
 use native.Mathlib.Nat.{le-refl}
 use lib.Dec.{leb, ltb}
 use borrow.Author.Tests.{leb-false, leb-true, ltb-false, ltb-true}
-use Rattle.base.specs.Choice.{both, both-false, both-left, both-right, by-test, true-false}
+use Rattle.base.specs.Choice.{both}
+use Rattle.base.proofs.Choice.{both-false, both-left, both-right, by-test, true-false}
 use Rattle.timeline.specs.Cues.{Body, Cue, Distinct, Lasting, Pairs, runningAt, runs, sameBody}
 use Rattle.timeline.specs.Checking.{Stand, matches, meets, noneLeft, out, part, standing, whole}
 use Rattle.timeline.proofs.Running.{body-same, moves, running-no, running-yes, runs-early, runs-late, runs-yes, same-body}

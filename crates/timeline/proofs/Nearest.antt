@@ -7,7 +7,8 @@ use native.Mathlib.Omega.{arith}
 use lib.Dec.{ltb}
 use lib.ListN.{length}
 use borrow.Author.Tests.{le-ltb, lt-ltb, ltb-true}
-use Rattle.base.specs.Choice.{by-test, pick}
+use Rattle.base.proofs.Choice.{by-test}
+use Rattle.base.specs.Choice.{pick}
 use Rattle.timeline.specs.Cues.{Cue, Proper}
 use Rattle.timeline.specs.Packing.{Rising, Sorts, marks, sorted}
 use Rattle.timeline.proofs.Sorting.{sorted-sorts}

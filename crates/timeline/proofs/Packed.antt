@@ -9,7 +9,8 @@ use native.Mathlib.Omega.{arith}
 use native.Mathlib.Nat.{le-of-lt, not-suc-le-zero, zero-add}
 use lib.Dec.{leb, ltb}
 use borrow.Author.Tests.{le-leb, le-ltb, lt-leb, lt-ltb}
-use Rattle.base.specs.Choice.{both, by-test, either}
+use Rattle.base.specs.Choice.{both}
+use Rattle.base.proofs.Choice.{by-test, either}
 use Rattle.timeline.specs.Cues.{Body, Cue, Proper, runningAt, runs}
 use Rattle.timeline.specs.Tracks.{Right, Sample, heldAt, heldFrom, total}
 use Rattle.timeline.specs.Packing.{Honest, Rising, Sorts, edges, heldOver, marks, packed, sorted, stretches}

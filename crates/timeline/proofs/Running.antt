@@ -7,7 +7,8 @@ use mathlib.Core.Option.{Option, none, some}
 use mathlib.Core.List.{List, List·Memᴰ, List·Memᴰ·cases-cons, List·Memᴰ·head, List·Memᴰ·not-nil, List·Memᴰ·tail, [], _++_, _∷_}
 use lib.Dec.{eqb, leb, ltb}
 use borrow.Author.Tests.{eqb-false, eqb-true, le-leb, le-ltb, leb-false, leb-true, lt-leb, lt-ltb, ltb-false, ltb-true}
-use Rattle.base.specs.Choice.{both, both-false, both-left, both-right, by-test, keep, list-same, same-list, sameList, true-false}
+use Rattle.base.specs.Choice.{both, keep, sameList}
+use Rattle.base.proofs.Choice.{both-false, both-left, both-right, by-test, list-same, same-list, true-false}
 use Rattle.timeline.specs.Cues.{Body, Cue, Distinct, Pairs, chosen, runningAt, runs, sameBody, sameId}
 
 -- laws of `runs`

@@ -8,7 +8,8 @@ use native.Mathlib.Nat.{le-refl}
 use lib.Dec.{eqb, leb, ltb}
 use lib.ListN.{length}
 use borrow.Author.Tests.{eqb-false, eqb-true, le-leb, lt-leb, ltb-false, ltb-true}
-use Rattle.base.specs.Choice.{by-test, either, pick}
+use Rattle.base.proofs.Choice.{by-test, either}
+use Rattle.base.specs.Choice.{pick}
 use Rattle.timeline.specs.Packing.{Rising, Sorts, insert, sorted}
 
 -- the three cases of insert

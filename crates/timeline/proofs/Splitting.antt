@@ -7,7 +7,8 @@ use mathlib.Core.List.{List, List·Memᴰ, List·Memᴰ·append-cases, List·Mem
 use native.Mathlib.Omega.{arith}
 use lib.Dec.{leb, ltb}
 use borrow.Author.Tests.{lt-leb}
-use Rattle.base.specs.Choice.{both, either, pick}
+use Rattle.base.specs.Choice.{both, pick}
+use Rattle.base.proofs.Choice.{either}
 use Rattle.timeline.specs.Cues.{Cue, Proper}
 use Rattle.timeline.specs.Tracks.{Positive, Right, Sample, copy, heldAt, heldFrom, total}
 use Rattle.timeline.specs.Checking.{accepted, check}

@@ -7,7 +7,8 @@ use mathlib.Core.List.{List, List·Memᴰ, List·Memᴰ·cases-cons, List·Mem�
 use native.Mathlib.Omega.{arith}
 use lib.Dec.{ltb}
 use borrow.Author.Tests.{le-ltb, ltb-false}
-use Rattle.base.specs.Choice.{both, by-test, pick}
+use Rattle.base.specs.Choice.{both, pick}
+use Rattle.base.proofs.Choice.{by-test}
 use Rattle.timeline.specs.Cues.{Body, Cue, Ordered, Pairs, sameBody}
 use Rattle.timeline.specs.Checking.{Stand, matches, meets, noneLeft, out, part, standing, whole}
 

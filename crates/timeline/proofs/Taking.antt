@@ -12,7 +12,8 @@ use lib.Dec.{eqb, leb, ltb}
 use lib.ListN.{drop, length, length-append}
 use lib.Seq.{append-snoc, drop-append-add, drop-append-le, drop-length, getD-at, set-at}
 use borrow.Author.Tests.{eqb-false, leb-true, ltb-false, ltb-true}
-use Rattle.base.specs.Choice.{by-test, either, pick, true-false}
+use Rattle.base.proofs.Choice.{by-test, either, true-false}
+use Rattle.base.specs.Choice.{pick}
 use Rattle.timeline.specs.Cues.{Body, Cue, Distinct, Named, Ordered, Pairs, Proper, runningAt, runs, sameBody, sameId}
 use Rattle.timeline.specs.Tracks.{Right, Sample, heldAt, heldFrom, total}
 use Rattle.timeline.specs.Unpacking.{ListOf, Taking, Unpacked, again, done, fresh, going, indexOf, withId, noCue, onIndex, onSample, onTaking, orNext, refused, stopped, takeAll, takeBody, till, unpack, unpackFrom}

@@ -12,7 +12,8 @@ use lib.ListN.{length}
 use borrow.Author.Tests.{ltb-false, eqb-true, eqb-false, le-ltb, ne-eqb, eq-eqb, not-false}
 use Rattle.verdict.specs.declared.Verdict.{Verdict}
 use Rattle.verdict.specs.declared.Verdict.the-variants.{Fine, Refused}
-use Rattle.verdict.specs.Judgement.{_gives_at_, _then_, each, both-fine, not-given, each-fine, each-all}
+use Rattle.verdict.specs.Judgement.{_gives_at_, _then_, each}
+use Rattle.verdict.proofs.Judgement.{both-fine, not-given, each-fine, each-all}
 use Rattle.boxes.specs.Boxes.{part}
 use Rattle.wvtt.specs.Sample.{judgeSample}
 use Rattle.track.specs.Track.{rowCount, durationOf, sizeOf, offsetOf, bytesOf, placedAt, judgeRow, judgeTrack, Readable}

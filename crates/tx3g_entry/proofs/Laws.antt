@@ -7,7 +7,8 @@ use native.Mathlib.Omega.{arith}
 use lib.ListN.{length}
 use Rattle.verdict.specs.declared.Verdict.{Verdict}
 use Rattle.verdict.specs.declared.Verdict.the-variants.{Fine, Refused}
-use Rattle.verdict.specs.Judgement.{_gives_at_, _then_, both-fine}
+use Rattle.verdict.specs.Judgement.{_gives_at_, _then_}
+use Rattle.verdict.proofs.Judgement.{both-fine}
 use Rattle.fields.specs.BigEndian.{be}
 use Rattle.boxes.specs.Boxes.{judged, among}
 use Rattle.bodies.specs.declared.Body.{Body}

@@ -11,9 +11,11 @@ use lib.ListN.{length, getD, set, replicate, length-set, getD-replicate}
 use lib.Seq.{getD-set-same, getD-set-other}
 use lib.Dec.{ltb, eqb}
 use borrow.Author.Tests.{eq-eqb, ne-eqb, eqb-true, eqb-false, lt-ltb}
-use Rattle.base.specs.Choice.{one-of, by-test, true-false}
+use Rattle.base.specs.Choice.{one-of}
+use Rattle.base.proofs.Choice.{by-test, true-false}
 use Rattle.verdict.specs.declared.Verdict.the-variants.{Fine}
-use Rattle.verdict.specs.Judgement.{_gives_at_, _then_, each, refuse, both-fine}
+use Rattle.verdict.specs.Judgement.{_gives_at_, _then_, each, refuse}
+use Rattle.verdict.proofs.Judgement.{both-fine}
 use Rattle.fields.specs.BigEndian.{be}
 use Rattle.bodies.specs.Bodies.{filled}
 use Rattle.bodies.proofs.Filled.{filled-fine}

@@ -9,7 +9,8 @@ use lib.ListN.{length}
 use borrow.Author.Tests.{ltb-false, lt-ltb, le-ltb}
 use Rattle.verdict.specs.declared.Verdict.{Verdict}
 use Rattle.verdict.specs.declared.Verdict.the-variants.{Fine, Refused}
-use Rattle.verdict.specs.Judgement.{_gives_at_, _then_, both-fine, refuse}
+use Rattle.verdict.specs.Judgement.{_gives_at_, _then_, refuse}
+use Rattle.verdict.proofs.Judgement.{both-fine}
 use Rattle.characters.specs.declared.Counted.the-variants.{Characters, Bad}
 use Rattle.verdict.specs.declared.Refusal.{Refusal}
 use Rattle.bodies.specs.declared.Body.the-variants.{At}

@@ -4,7 +4,7 @@ use mathlib.Core.Path.{_≡_, refl, sym, ap}
 use mathlib.Core.List.{List}
 use mathlib.Core.Bool.{Bool, true, false}
 use lib.ListN.{length}
-use Rattle.base.specs.First.{first-none, first-some}
+use Rattle.base.proofs.First.{first-none, first-some}
 use Rattle.fields.specs.BigEndian.{be}
 use Rattle.bodies.specs.declared.Body.the-variants.{At}
 use Rattle.tx3g_contents.specs.Kinds.{styl, single, known}

@@ -10,7 +10,8 @@ use lib.Dec.{eqb, ltb, leb}
 use lib.ListN.{length, getD, set, length-append, length-set, List·getD-append}
 use lib.Seq.{getD-at, getD-set-same, getD-set-other}
 use borrow.Author.Tests.{eqb-true, eqb-false}
-use Rattle.base.specs.Choice.{pick, either, by-test}
+use Rattle.base.specs.Choice.{pick}
+use Rattle.base.proofs.Choice.{either, by-test}
 use Rattle.timeline.specs.Cues.{Body, Cue, sameBody}
 use Rattle.timeline.specs.Tracks.{Sample}
 use Rattle.timeline.specs.Unpacking.{noCue, fresh, till, indexOf, Taking, refused, going, again, onIndex, withId, takeBody, onTaking, takeAll, Unpacked, stopped, done, onSample, unpackFrom, unpack}

@@ -8,13 +8,15 @@ use native.Mathlib.Nat.{le-refl}
 use lib.Dec.{leb, ltb}
 use lib.ListN.{length, getD}
 use borrow.Author.Tests.{ltb-false, not-false}
-use Rattle.base.specs.Choice.{one-of, by-test}
+use Rattle.base.specs.Choice.{one-of}
+use Rattle.base.proofs.Choice.{by-test}
 use Rattle.verdict.specs.declared.Refusal.{Refusal}
 use Rattle.verdict.specs.declared.Verdict.{Verdict}
 use Rattle.verdict.specs.declared.Verdict.the-variants.{Fine, Refused}
-use Rattle.verdict.specs.Judgement.{fault, refuse, _gives_at_, each, both-fine, not-given, each-fine}
+use Rattle.verdict.specs.Judgement.{fault, refuse, _gives_at_, each}
+use Rattle.verdict.proofs.Judgement.{both-fine, not-given, each-fine}
 use Rattle.times.specs.Times.{back, scaleAllowed, timelineAllowed, Limits}
-use Rattle.times.specs.Laws.{timeline-limits}
+use Rattle.times.proofs.Laws.{timeline-limits}
 use Rattle.timeline.specs.Cues.{Body, Cue}
 use Rattle.timeline.specs.Tracks.{Sample, Positive, total}
 use Rattle.timeline.specs.Unpacking.{noCue, stopped, done, unpack}

@@ -7,8 +7,9 @@ use native.Mathlib.Omega.{arith}
 use native.Mathlib.Nat.{not-suc-le-zero}
 use lib.ListN.{length, take, drop, getD, length-append, length-map, List·getD-map}
 use lib.Seq.{take-at, drop-at, ext-getD}
-use Rattle.base.specs.Choice.{either}
-use Rattle.fields.specs.BigEndian.{be, bytes, length-bytes, be-behind, be-front, be-written}
+use Rattle.base.proofs.Choice.{either}
+use Rattle.fields.specs.BigEndian.{be, bytes}
+use Rattle.fields.proofs.BigEndian.{length-bytes, be-behind, be-front, be-written}
 use Rattle.times.specs.Times.{tick, back}
 use Rattle.timeline.specs.Lists.{listed}
 use Rattle.timeline.specs.Cues.{Cue}

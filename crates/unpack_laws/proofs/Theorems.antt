@@ -10,13 +10,15 @@ use native.Mathlib.Nat.{mul-le-mul-right, not-suc-le-zero, le-of-suc-le-suc}
 use lib.Dec.{leb, ltb}
 use lib.ListN.{length, getD, length-take}
 use borrow.Author.Tests.{ltb-false, leb-false, le-ltb, lt-leb, not-false}
-use Rattle.base.specs.Choice.{one-of, either, both-left}
+use Rattle.base.specs.Choice.{one-of}
+use Rattle.base.proofs.Choice.{either, both-left}
 use Rattle.verdict.specs.declared.Verdict.{Verdict}
 use Rattle.verdict.specs.declared.Verdict.the-variants.{Fine, Refused}
-use Rattle.verdict.specs.Judgement.{_gives_at_, each, both-fine, not-given, each-fine, each-all}
+use Rattle.verdict.specs.Judgement.{_gives_at_, each}
+use Rattle.verdict.proofs.Judgement.{both-fine, not-given, each-fine, each-all}
 use Rattle.text.specs.Rules.{identifierText, payloadText}
 use Rattle.times.specs.Times.{tick, back, scaleAllowed, timelineAllowed, Limits}
-use Rattle.times.specs.Laws.{timeline-limits, limits-timeline, scale-limits, tick-back, back-tick, back-mono}
+use Rattle.times.proofs.Laws.{timeline-limits, limits-timeline, scale-limits, tick-back, back-tick, back-mono}
 use Rattle.timeline.specs.Cues.{Cue, Pairs}
 use Rattle.timeline.specs.Tracks.{total}
 use Rattle.timeline.specs.Packing.{packed}

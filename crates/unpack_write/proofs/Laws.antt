@@ -8,8 +8,10 @@ use native.Mathlib.Nat.{le-refl}
 use native.Mathlib.Numerals.{add-one}
 use native.Mathlib.Decide.{le-ind}
 use lib.ListN.{length, length-append}
-use Rattle.base.specs.Over.{over, wrote, over-wrote, wrote-more, length-wrote}
-use Rattle.fields.specs.BigEndian.{bytes, length-bytes}
+use Rattle.base.specs.Over.{over, wrote}
+use Rattle.base.proofs.Over.{over-wrote, wrote-more, length-wrote}
+use Rattle.fields.specs.BigEndian.{bytes}
+use Rattle.fields.proofs.BigEndian.{length-bytes}
 use Rattle.boxes.specs.Boxes.{part}
 use Rattle.timeline.specs.Cues.{Body, Cue}
 use Rattle.wvtt_cues.specs.declared.Part.{Part}

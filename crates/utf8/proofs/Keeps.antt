@@ -3,7 +3,7 @@ use Prim.Native.Nat.{ℕ}
 use mathlib.Core.Path.{_≡_, sym}
 use mathlib.Core.Bool.{true, false}
 use mathlib.Core.List.{List}
-use Rattle.base.specs.Tests.{both-yes, both-no}
+use Rattle.base.proofs.Tests.{both-yes, both-no}
 use Rattle.utf8.specs.Utf8.{utf8}
 use Rattle.utf8.specs.Strings.{hasAny}
 use Rattle.utf8.specs.Forbidden.{forbidden}

@@ -9,9 +9,11 @@ use native.Mathlib.Nat.{add-zero, add-suc, add-assoc, zero-add}
 use borrow.Author.Tests.{eq-eqb, ne-eqb, ltb-true, ltb-false, lt-ltb, le-ltb, eqb-true, eqb-false, not-true}
 use lib.Dec.{eqb, ltb}
 use lib.ListN.{length, getD, drop}
-use Rattle.base.specs.Iter.{iter, iter-begins, iter-turn, iter-stays}
-use Rattle.base.specs.Choice.{one-of, by-test, both-left, both-right}
-use Rattle.base.specs.Tests.{one-of-yes, one-of-first, one-of-second}
+use Rattle.base.specs.Iter.{iter}
+use Rattle.base.proofs.Iter.{iter-begins, iter-turn, iter-stays}
+use Rattle.base.specs.Choice.{one-of}
+use Rattle.base.proofs.Choice.{by-test, both-left, both-right}
+use Rattle.base.proofs.Tests.{one-of-yes, one-of-first, one-of-second}
 use Rattle.ascii.specs.Ascii.{ascii, mark, unmarked, all}
 use Rattle.utf8.specs.Utf8.{utf8, classOf}
 use Rattle.utf8.specs.Strings.{CR, LF, GREATER, startsWithAny, hasAny}

@@ -7,8 +7,8 @@ use native.Mathlib.Nat.{not-suc-le-zero}
 use borrow.Author.Tests.{eqb-true, eq-eqb}
 use lib.Dec.{eqb}
 use lib.ListN.{length}
-use Rattle.base.specs.Choice.{both-left, both-right, by-test, true-false}
-use Rattle.base.specs.Tests.{one-of-yes}
+use Rattle.base.proofs.Choice.{both-left, both-right, by-test, true-false}
+use Rattle.base.proofs.Tests.{one-of-yes}
 use Rattle.utf8.specs.Strings.{startsWith, startsWithAny, hasAny, Holds, HasAnyIs}
 
 split : (p s : List ℕ) → startsWith p s ≡ true → (b : List ℕ) × (s ≡ p ++ b)

@@ -8,9 +8,10 @@ use borrow.Author.Tests.{ne-eqb}
 use lib.Dec.{T, eqb, leb, leb→le}
 use lib.ListN.{length, getD, drop, drop-of-length-le}
 use lib.Seq.{drop-cons}
-use Rattle.base.specs.Choice.{both, one-of, by-test, true-false, both-left, both-right}
-use Rattle.base.specs.Table.{first-of, second-of}
-use Rattle.base.specs.Tests.{one-of-no, one-of-yes, one-of-comm, one-of-first, one-of-second, one-of-swap, both-yes, both-no, both-comm, both-turn}
+use Rattle.base.specs.Choice.{both, one-of}
+use Rattle.base.proofs.Choice.{by-test, true-false, both-left, both-right}
+use Rattle.base.proofs.Table.{first-of, second-of}
+use Rattle.base.proofs.Tests.{one-of-no, one-of-yes, one-of-comm, one-of-first, one-of-second, one-of-swap, both-yes, both-no, both-comm, both-turn}
 use Rattle.utf8.specs.Strings.{CR, LF, GREATER, startsWith, startsWithAny, hasAny}
 use Rattle.utf8.specs.Forbidden.{notInLine, notInPayload, forbidden}
 use Rattle.utf8.specs.Machine.{endsForbidden}

@@ -1,10 +1,6 @@
 -- Judgements: the first fault wins. Document 01, 'Numbers given back'.
-use Prim.Native.Nat.{ℕ, zero, suc, _+_, _-_, _<_, _≤_}
-use mathlib.Core.Path.{_≡_, refl, sym, ap, _∙_}
+use Prim.Native.Nat.{ℕ, zero, suc}
 use mathlib.Core.Bool.{Bool, true, false}
-use native.Mathlib.Omega.{arith}
-use native.Mathlib.Nat.{add-zero, add-suc}
-use native.Mathlib.Numerals.{add-one}
 use Rattle.verdict.specs.declared.Refusal.{Refusal}
 use Rattle.verdict.specs.declared.Verdict.{Verdict}
 use Rattle.verdict.specs.declared.Verdict.the-variants.{Fine, Refused}
@@ -12,6 +8,7 @@ use Rattle.verdict.specs.declared.Verdict.the-variants.{Fine, Refused}
 infixr 20 _then_
 infix 30 _gives_at_
 -- number n at place p
+
 unfoldable pub fault : ℕ → ℕ → Refusal
 fault n p = record { number = n; place = p }
 
@@ -41,52 +38,3 @@ Refused r then w = Refused r
 unfoldable pub each : (ℕ → Verdict) → ℕ → Verdict
 each f zero = Fine
 each f (suc k) = each f k then f k
-
-pub then-fine : (v w : Verdict) → v ≡ Fine → v then w ≡ w
-then-fine v w e = rw e
-
-pub then-refused : (v w : Verdict) (r : Refusal) → v ≡ Refused r → v then w ≡ Refused r
-then-refused v w r e = rw e
-
-pub then-assoc : (u v w : Verdict) → (u then v) then w ≡ u then (v then w)
-then-assoc Fine v w = refl
-then-assoc (Refused r) v w = refl
-
--- no fault: neither has one
-pub both-fine : (v w : Verdict) → v then w ≡ Fine → (v ≡ Fine) × (w ≡ Fine)
-both-fine Fine w e = (refl, e)
-both-fine (Refused r) w e = let z : _≡_ {A = ℕ} 0 1 = cc in absurd (omega arith)
-
--- a test that gives no fault does not pass
-pub not-given : (b : Bool) (n p : ℕ) → b gives n at p ≡ Fine → b ≡ false
-not-given true n p e = let z : _≡_ {A = ℕ} 0 1 = cc in absurd (omega arith)
-not-given false n p e = refl
-
--- one turn of a loop
-pub each-more : (f : ℕ → Verdict) (k : ℕ) → each f k ≡ Fine → f k ≡ Fine → each f (k + 1) ≡ Fine
-unfolding each
-each-more f k e q = rw (add-one, each, e) q
-
--- a refused turn settles the judgement
-pub each-stops : (f : ℕ → Verdict) (k n : ℕ) (r : Refusal) → k < n → each f k ≡ Fine → f k ≡ Refused r → each f n ≡ Refused r
-unfolding each
-each-stops f k n r l e q = let s : n ≡ suc k + (n - suc k) = omega arith in rw s (on (n - suc k))
-  where
-    on : (d : ℕ) → each f (suc k + d) ≡ Refused r
-    on zero = rw (add-zero, each, e) q
-    on (suc d) = rw (add-suc, each, on d)
-
--- no fault in all: none in each
-pub each-fine : (f : ℕ → Verdict) (n k : ℕ) → each f n ≡ Fine → k < n → f k ≡ Fine
-unfolding each
-each-fine f n k e l = let s : n ≡ suc k + (n - suc k) = omega arith in on (n - suc k) (ap (each f) (sym s) ∙ e)
-  where
-    on : (d : ℕ) → each f (suc k + d) ≡ Fine → f k ≡ Fine
-    on zero h = both-fine (each f k) (f k) (rw add-zero at h) .1
-    on (suc d) h = on d (both-fine (each f (suc k + d)) (f (suc k + d)) (rw add-suc at h) .0)
-
--- no fault in each: none in all
-pub each-all : (f : ℕ → Verdict) (n : ℕ) → ((k : ℕ) → k < n → f k ≡ Fine) → each f n ≡ Fine
-unfolding each
-each-all f zero h = refl
-each-all f (suc n) h = rw (each-all f n (λ k l. h k (omega arith))) (h n (omega arith))

@@ -8,10 +8,12 @@ use native.Mathlib.Omega.{arith}
 use lib.Dec.{eqb, ltb, leb}
 use lib.ListN.{length, drop, length-take}
 use borrow.Author.Tests.{ltb-false, leb-false, eqb-true, not-false}
-use Rattle.base.specs.Choice.{pick, both, keep, by-test}
+use Rattle.base.specs.Choice.{pick, both, keep}
+use Rattle.base.proofs.Choice.{by-test}
 use Rattle.verdict.specs.declared.Verdict.{Verdict}
 use Rattle.verdict.specs.declared.Verdict.the-variants.{Fine, Refused}
-use Rattle.verdict.specs.Judgement.{_gives_at_, _then_, both-fine, not-given}
+use Rattle.verdict.specs.Judgement.{_gives_at_, _then_}
+use Rattle.verdict.proofs.Judgement.{both-fine, not-given}
 use Rattle.fields.specs.BigEndian.{be}
 use Rattle.text.specs.Rules.{identifierText, payloadText}
 use Rattle.boxes.specs.Boxes.{Boxes, clean, broken, box, boxesIn, judged, among, part}

@@ -8,7 +8,8 @@ use native.Mathlib.Nat.{not-suc-le-zero}
 use lib.Dec.{eqb}
 use lib.ListN.{length}
 use borrow.Author.Tests.{eqb-true, eqb-false}
-use Rattle.base.specs.Choice.{pick, keep, by-test}
+use Rattle.base.specs.Choice.{pick, keep}
+use Rattle.base.proofs.Choice.{by-test}
 use Rattle.boxes.specs.declared.Step.{Step}
 use Rattle.boxes.specs.declared.Step.the-variants.{Box, Refused as Stopped, End as Ended}
 use Rattle.boxes.specs.Boxes.{stepAt, Boxes, clean, broken, box, onStep, boxesF, boxesIn}

@@ -7,8 +7,10 @@ use native.Mathlib.Nat.{add-assoc}
 use native.Mathlib.Numerals.{add-one}
 use lib.ListN.{length, take, drop, getD, set, length-append, length-drop}
 use lib.Seq.{paste, paste-suc, getD-drop, length-take-le}
-use Rattle.base.specs.Over.{wrote, wrote-more, wrote-nil, paste-wrote, length-wrote}
-use Rattle.fields.specs.BigEndian.{bytes, length-bytes}
+use Rattle.base.specs.Over.{wrote}
+use Rattle.base.proofs.Over.{wrote-more, wrote-nil, paste-wrote, length-wrote}
+use Rattle.fields.specs.BigEndian.{bytes}
+use Rattle.fields.proofs.BigEndian.{length-bytes}
 use Rattle.boxes.specs.Boxes.{part}
 use Rattle.boxes.specs.Written.{Item, boxBytes, itemBytes}
 use Rattle.boxes.proofs.Written.{length-box}

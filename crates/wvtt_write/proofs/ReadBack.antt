@@ -9,11 +9,13 @@ use native.Mathlib.Nat.{le-refl, zero-add}
 use lib.Dec.{eqb, ltb, leb}
 use lib.ListN.{length, length-append}
 use borrow.Author.Tests.{le-ltb, lt-leb, ne-eqb}
-use Rattle.base.specs.Choice.{pick, both, one-of, by-test, keep}
+use Rattle.base.specs.Choice.{pick, both, one-of, keep}
+use Rattle.base.proofs.Choice.{by-test}
 use Rattle.verdict.specs.declared.Verdict.{Verdict}
 use Rattle.verdict.specs.declared.Verdict.the-variants.{Fine}
 use Rattle.verdict.specs.Judgement.{_gives_at_, _then_}
-use Rattle.fields.specs.BigEndian.{be, bytes, length-bytes, be-bytes}
+use Rattle.fields.specs.BigEndian.{be, bytes}
+use Rattle.fields.proofs.BigEndian.{length-bytes, be-bytes}
 use Rattle.boxes.specs.Boxes.{boxesF, boxesIn, passed, judged, among, times, part}
 use Rattle.boxes.specs.Written.{Item, boxBytes, itemBytes, Fitting, laid}
 use Rattle.boxes.proofs.Written.{length-box, around, part-written, pass-box, length-pass, boxes-written, be-part}

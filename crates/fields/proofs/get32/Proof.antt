@@ -1,7 +1,7 @@
 -- `fields::get32` meets its contract: two numbers of 2 bytes are one of twice the width (`be-add`).
 use native.Mathlib.Omega.{arith}
 use borrow.Author.Needs.{needs}
-use Rattle.fields.specs.BigEndian.{be-add}
+use Rattle.fields.proofs.BigEndian.{be-add}
 use Rattle.fields.proofs.get32.Statement.{statement}
 use Rattle.fields.proofs.get32.Tie as tie
 

@@ -2,8 +2,9 @@
 use mathlib.Core.Path.{refl}
 use native.Mathlib.Omega.{arith}
 use borrow.Author.Needs.{needs}
-use Rattle.base.specs.Over.{sets-wrote}
-use Rattle.fields.specs.BigEndian.{bytes, length-bytes}
+use Rattle.base.proofs.Over.{sets-wrote}
+use Rattle.fields.specs.BigEndian.{bytes}
+use Rattle.fields.proofs.BigEndian.{length-bytes}
 use Rattle.fields.proofs.put8.Statement.{statement}
 use Rattle.fields.proofs.put8.Tie as tie
 

@@ -1,5 +1,5 @@
 -- `listing::put_refusal` meets its contract.
-use Rattle.listing.specs.Listing.{refusal-short}
+use Rattle.listing.proofs.Listing.{refusal-short}
 use Rattle.listing.proofs.Laws.{length-refusal, refused-text}
 use native.Mathlib.Omega.{arith}
 use borrow.Author.Needs.{needs}

@@ -4,7 +4,8 @@ use Prim.Native.Nat.{ℕ, _+_}
 use mathlib.Core.Path.{_≡_, ap, ap₂, _∙_}
 use lib.ListN.{length}
 use Rattle.base.specs.Over.{wrote}
-use Rattle.listing.specs.Listing.{pairText, rowText, pair-short}
+use Rattle.listing.specs.Listing.{pairText, rowText}
+use Rattle.listing.proofs.Listing.{pair-short}
 use native.Mathlib.Omega.{arith}
 use borrow.Author.Needs.{needs}
 use Rattle.listing.proofs.put_row.Statement.{statement}

@@ -3,7 +3,8 @@ use Prim.Native.Nat.{ℕ, _-_, _*_, _≤_}
 use native.Mathlib.Nat.{le-antisymm}
 use mathlib.Core.Path.{_≡_, refl, ap, _∙_}
 use lib.ListN.{length}
-use Rattle.base.specs.Over.{over, over-nil}
+use Rattle.base.specs.Over.{over}
+use Rattle.base.proofs.Over.{over-nil}
 use Rattle.listing.specs.Listing.{rowsText}
 use Rattle.listing.proofs.Laws.{rows-more, rows-length}
 use borrow.Author.Needs.{needs}

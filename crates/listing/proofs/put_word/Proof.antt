@@ -1,6 +1,6 @@
 -- `listing::put_word` meets its contract.
 use lib.ListN.{length-set}
-use Rattle.base.specs.Over.{sets-wrote}
+use Rattle.base.proofs.Over.{sets-wrote}
 use Rattle.listing.specs.Listing.{word}
 use native.Mathlib.Omega.{arith}
 use borrow.Author.Needs.{needs}

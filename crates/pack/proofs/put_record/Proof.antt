@@ -2,7 +2,8 @@ use Rattle.pack.proofs.Laws.{body-is, one-cue}
 use Rattle.cuts.specs.Cuts.{endTick, recordSize}
 use Rattle.records.proofs.Laws.{in-order}
 use Rattle.wvtt_write.specs.Written.{cuesBytes}
-use Rattle.base.specs.Over.{wrote, wrote-nil}
+use Rattle.base.specs.Over.{wrote}
+use Rattle.base.proofs.Over.{wrote-nil}
 use borrow.Author.Tests.{le-ltb, lt-ltb}
 use lib.ListN.{length}
 use mathlib.Core.Path.{_∙_, ap}

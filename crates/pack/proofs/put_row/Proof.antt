@@ -1,5 +1,7 @@
-use Rattle.fields.specs.BigEndian.{bytes, length-bytes}
-use Rattle.base.specs.Over.{wrote, wrote-more}
+use Rattle.fields.specs.BigEndian.{bytes}
+use Rattle.fields.proofs.BigEndian.{length-bytes}
+use Rattle.base.specs.Over.{wrote}
+use Rattle.base.proofs.Over.{wrote-more}
 use Prim.Native.Nat.{ℕ, _+_, _*_}
 use mathlib.Core.List.{List}
 use mathlib.Core.Path.{_∙_, ap}

@@ -7,7 +7,8 @@ use Rattle.cuts.specs.Cuts.{ticksTo, orEmpty, Timed, CutAt}
 use Rattle.records.specs.Records.{count}
 use Rattle.timeline.proofs.Nearest.{nearest-top}
 use Rattle.times.specs.Times.{tick}
-use Rattle.base.specs.Over.{over, over-nil}
+use Rattle.base.specs.Over.{over}
+use Rattle.base.proofs.Over.{over-nil}
 use lib.ListN.{length, take}
 use mathlib.Core.Path.{_≡_, _∙_, ap, refl, subst, subst⁻¹}
 use Prim.Native.Nat.{ℕ, _-_, _/_, _≤_, _<_}

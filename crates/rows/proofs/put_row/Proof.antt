@@ -2,7 +2,7 @@ use Prim.Native.Nat.{_*_}
 use native.Mathlib.Omega.{arith}
 use native.Mathlib.Numerals.{towards-suc}
 use lib.ListN.{length-set}
-use Rattle.base.specs.Over.{sets-wrote}
+use Rattle.base.proofs.Over.{sets-wrote}
 use Rattle.rows.specs.Table.{numbersOf}
 use borrow.Author.Needs.{needs}
 use Rattle.rows.proofs.put_row.Statement.{statement}

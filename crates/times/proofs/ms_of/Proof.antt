@@ -1,7 +1,7 @@
 -- `times::ms_of` meets its contract: the quotient, and one more where something is left.
 use native.Mathlib.Omega.{arith}
 use borrow.Author.Needs.{needs}
-use Rattle.times.specs.Laws.{back-even, back-more}
+use Rattle.times.proofs.Laws.{back-even, back-more}
 use Rattle.times.proofs.ms_of.Statement.{statement}
 use Rattle.times.proofs.ms_of.Tie as tie
 

@@ -1,7 +1,7 @@
 -- `times::tick_of` meets its contract: the product of two 32-bit numbers fits.
 use native.Mathlib.Omega.{arith}
 use Prim.Native.Nat.{_*_, _≤_}
-use Rattle.base.specs.Choice.{product}
+use Rattle.base.proofs.Choice.{product}
 use Rattle.times.specs.Times.{tick}
 use Rattle.times.proofs.tick_of.Statement.{statement}
 use Rattle.times.proofs.tick_of.Tie as tie

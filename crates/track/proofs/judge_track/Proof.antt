@@ -2,7 +2,8 @@
 use Rattle.track.proofs.Laws.{track-is}
 use Rattle.track.proofs.Laws.{offset-suc, row-fine}
 use Rattle.track.specs.Track.{rowCount, offsetOf, judgeRow, judgeTrack}
-use Rattle.verdict.specs.Judgement.{each, each-more, each-stops}
+use Rattle.verdict.specs.Judgement.{each}
+use Rattle.verdict.proofs.Judgement.{each-more, each-stops}
 use Rattle.verdict.specs.declared.Verdict.the-variants.{Fine}
 use mathlib.Core.Path.{_≡_, refl, _∙_, sym, ap}
 use lib.ListN.{length}

@@ -1,7 +1,8 @@
 -- `tx3g_fonts::judge_ids` meets its contract. The invariant: where font k stands, the IDs before it are distinct, and their slots are taken.
 use Rattle.tx3g_fonts.proofs.Laws.{Taken, taken-more, among-zero, font-zero, font-more, fonts-up, fonts-from, fresh-new, fresh-old}
 use Rattle.tx3g_fonts.specs.Fonts.{fontAt, fontAmong, freshFont}
-use Rattle.verdict.specs.Judgement.{each, each-more, each-stops}
+use Rattle.verdict.specs.Judgement.{each}
+use Rattle.verdict.proofs.Judgement.{each-more, each-stops}
 use Rattle.verdict.specs.declared.Verdict.the-variants.{Fine}
 use lib.ListN.{length}
 use mathlib.Core.Path.{_≡_, refl, sym, _∙_}

@@ -3,7 +3,8 @@ use Rattle.tx3g_rules.proofs.Laws.{turn-room, turn-place, turn-is, time
 use Rattle.tx3g_rules.specs.Rules.{timeBefore, judgeTurn}
 use Rattle.tx3g_contents.proofs.Laws.{karaoke-past}
 use Rattle.fields.specs.BigEndian.{be}
-use Rattle.verdict.specs.Judgement.{each, each-more, each-stops}
+use Rattle.verdict.specs.Judgement.{each}
+use Rattle.verdict.proofs.Judgement.{each-more, each-stops}
 use Rattle.verdict.specs.declared.Verdict.the-variants.{Fine}
 use lib.ListN.{length}
 use mathlib.Core.Path.{_≡_, refl, sym, _∙_}

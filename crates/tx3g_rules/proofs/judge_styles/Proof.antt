@@ -5,7 +5,8 @@ use Rattle.tx3g_contents.proofs.Laws.{styles-past}
 use Rattle.tx3g_fonts.proofs.Laws.{slotted}
 use Rattle.tx3g_fonts.specs.Fonts.{hasFont}
 use Rattle.fields.specs.BigEndian.{be}
-use Rattle.verdict.specs.Judgement.{each, each-more, each-stops}
+use Rattle.verdict.specs.Judgement.{each}
+use Rattle.verdict.proofs.Judgement.{each-more, each-stops}
 use Rattle.verdict.specs.declared.Verdict.the-variants.{Fine}
 use lib.ListN.{length}
 use mathlib.Core.Path.{_≡_, refl, sym, _∙_}

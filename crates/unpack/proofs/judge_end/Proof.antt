@@ -1,6 +1,7 @@
 use mathlib.Core.Path.{sym, _∙_}
 use borrow.Author.Tests.{le-ltb, lt-ltb}
-use Rattle.verdict.specs.Judgement.{each, then-refused}
+use Rattle.verdict.specs.Judgement.{each}
+use Rattle.verdict.proofs.Judgement.{then-refused}
 use Rattle.unpack.specs.Rows.{endOf, rowTimes}
 use borrow.Author.Needs.{needs}
 use Rattle.unpack.proofs.judge_end.Statement.{statement}

@@ -2,7 +2,8 @@ use Prim.Native.Nat.{_-_, _<_, _≤_}
 use native.Mathlib.Nat.{le-antisymm}
 use mathlib.Core.Path.{_≡_, refl, sym, ap, _∙_, subst}
 use Rattle.verdict.specs.declared.Verdict.the-variants.{Fine}
-use Rattle.verdict.specs.Judgement.{each, each-more, each-stops}
+use Rattle.verdict.specs.Judgement.{each}
+use Rattle.verdict.proofs.Judgement.{each-more, each-stops}
 use Rattle.rows.specs.declared.Row.{Row}
 use Rattle.unpack.specs.Rows.{rowTimes}
 use Rattle.unpack.proofs.Laws.{times-bad, times-good}

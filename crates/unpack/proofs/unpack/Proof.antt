@@ -4,7 +4,7 @@ use mathlib.Core.List.{List}
 use native.Mathlib.Omega.{arith}
 use lib.ListN.{length}
 use borrow.Author.Tests.{not-true, not-false}
-use Rattle.times.specs.Laws.{scale-limits}
+use Rattle.times.proofs.Laws.{scale-limits}
 use Rattle.times.specs.Times.{back}
 use Rattle.timeline.specs.Cues.{Cue}
 use Rattle.verdict.specs.declared.Verdict.{Verdict}

@@ -1,7 +1,7 @@
 use Prim.Native.Nat.{_+_}
 use native.Mathlib.Omega.{arith}
 use lib.ListN.{length-append}
-use Rattle.fields.specs.BigEndian.{length-bytes}
+use Rattle.fields.proofs.BigEndian.{length-bytes}
 use Rattle.unpack_write.specs.Records.{recordBytes}
 use Rattle.unpack_write.specs.Rows.{rowRecord}
 use Rattle.unpack_write.proofs.Laws.{in-two}

@@ -4,7 +4,8 @@ use mathlib.Core.Path.{_≡_, refl, sym, ap, ap₂, _∙_, subst}
 use mathlib.Core.List.{List}
 use mathlib.Core.Bool.{true}
 use lib.ListN.{length}
-use Rattle.base.specs.Over.{over, wrote, over-nil}
+use Rattle.base.specs.Over.{over, wrote}
+use Rattle.base.proofs.Over.{over-nil}
 use Rattle.rows.specs.Table.{rowAt, bodyAt, known}
 use Rattle.rows.specs.declared.Row.{Row}
 use Rattle.unpack_write.specs.Records.{recordsTo, poolTo, textsOf}

@@ -1,7 +1,7 @@
 -- `wvtt_entry::judge_entry` meets its contract: the head comes first.
 use Rattle.wvtt_entry.specs.Entry.{judgeEntry}
 use Rattle.entry_head.proofs.Laws.{head-fixed}
-use Rattle.verdict.specs.Judgement.{then-fine, then-refused}
+use Rattle.verdict.proofs.Judgement.{then-fine, then-refused}
 use mathlib.Core.Path.{sym, _∙_}
 use borrow.Author.Needs.{needs}
 use Rattle.wvtt_entry.proofs.judge_entry.Statement.{statement}

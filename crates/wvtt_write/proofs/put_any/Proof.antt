@@ -1,7 +1,8 @@
 -- `wvtt_write::put_any` meets its contract: no bytes write nothing.
 use Rattle.wvtt_write.proofs.Laws.{length-part, any-none, any-some, any-size}
 use Rattle.boxes.specs.Boxes.{part}
-use Rattle.base.specs.Over.{wrote, wrote-nil}
+use Rattle.base.specs.Over.{wrote}
+use Rattle.base.proofs.Over.{wrote-nil}
 use lib.ListN.{length}
 use native.Mathlib.Nat.{add-zero}
 use native.Mathlib.Omega.{arith}

@@ -5,7 +5,8 @@ use Rattle.wvtt_write.specs.Written.{pooled, cueSize, textItems}
 use Rattle.wvtt.specs.Kinds.{vttc, vsid}
 use Rattle.boxes.proofs.Written.{length-box}
 use Rattle.boxes.specs.Written.{boxBytes, itemBytes}
-use Rattle.fields.specs.BigEndian.{bytes, length-bytes}
+use Rattle.fields.specs.BigEndian.{bytes}
+use Rattle.fields.proofs.BigEndian.{length-bytes}
 use Rattle.base.specs.Over.{wrote}
 use lib.ListN.{length, length-append}
 use native.Mathlib.Omega.{arith}

@@ -1,6 +1,8 @@
 -- `wvtt_write::put_header` meets its contract: two numbers, one behind the other.
-use Rattle.fields.specs.BigEndian.{bytes, length-bytes}
-use Rattle.base.specs.Over.{wrote, wrote-more}
+use Rattle.fields.specs.BigEndian.{bytes}
+use Rattle.fields.proofs.BigEndian.{length-bytes}
+use Rattle.base.specs.Over.{wrote}
+use Rattle.base.proofs.Over.{wrote-more}
 use native.Mathlib.Omega.{arith}
 use Prim.Native.Nat.{ℕ, _+_}
 use mathlib.Core.Path.{ap, _∙_}

@@ -1,7 +1,8 @@
 -- `wvtt_write::put_id` meets its contract: a header, and the number behind it.
 use Rattle.wvtt_write.proofs.Laws.{boxed}
 use Rattle.wvtt.specs.Kinds.{vsid}
-use Rattle.fields.specs.BigEndian.{bytes, length-bytes}
+use Rattle.fields.specs.BigEndian.{bytes}
+use Rattle.fields.proofs.BigEndian.{length-bytes}
 use Rattle.base.specs.Over.{wrote}
 use native.Mathlib.Omega.{arith}
 use Prim.Native.Nat.{ℕ, _+_}

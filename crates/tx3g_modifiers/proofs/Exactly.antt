@@ -9,7 +9,7 @@ use lib.ListN.{length}
 use borrow.Author.Tests.{eq-eqb, le-ltb}
 use Rattle.base.specs.Choice.{pick, keep}
 use Rattle.verdict.specs.declared.Verdict.the-variants.{Fine}
-use Rattle.verdict.specs.Judgement.{both-fine}
+use Rattle.verdict.proofs.Judgement.{both-fine}
 use Rattle.boxes.specs.declared.Step.{Step}
 use Rattle.boxes.specs.declared.Step.the-variants.{Box, Refused as Stopped, End as Ended}
 use Rattle.boxes.specs.Boxes.{stepAt, Boxes, clean, broken, box, onStep, boxesIn, judged}

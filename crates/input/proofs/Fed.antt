@@ -1,17 +1,18 @@
 -- Feeding the bytes of a line, in whatever chunks, gives the line.
-use Prim.Native.Nat.{ℕ, _+_, _-_, _*_, _≤_, min}
+use Prim.Native.Nat.{ℕ, _+_, _-_, _*_, _≤_}
 use mathlib.Core.Path.{_≡_, refl, sym, ap, _∙_}
 use mathlib.Core.Bool.{Bool, true, false}
 use mathlib.Core.List.{List, [], _∷_, _++_}
 use native.Mathlib.Omega.{arith}
-use lib.Dec.{leb, eqb}
-use borrow.Author.Tests.{eq-eqb, ne-eqb, eqb-true, leb-true}
-use Rattle.base.specs.Choice.{pick, both, both-left, by-test, within, sameList}
+use lib.Dec.{eqb}
+use borrow.Author.Tests.{eq-eqb}
+use Rattle.base.specs.Choice.{pick, both, sameList}
+use Rattle.base.proofs.Choice.{by-test}
 use Rattle.decimal.specs.Decimal.{value, valueFrom}
-use Rattle.input.specs.Reading.{isDigit, top, grown, stepped, fed, lineAt}
-use Rattle.input.specs.Line.{apart, before, behind, allDigits, number, written, lineOf}
+use Rattle.input.specs.Reading.{isDigit, top, grown, fed, lineAt}
+use Rattle.input.proofs.Lines.{apart}
+use Rattle.input.specs.Line.{before, behind, allDigits, number, written, lineOf}
 use Rattle.input.specs.declared.Reading.the-variants.{Start, Scale, Space, Time, Whole, Wrong}
-use Rattle.input.specs.declared.Line.{Line}
 use Rattle.input.specs.declared.Line.the-variants.{Numbers, Bad}
 
 both-true : (a : Bool) → both a true ≡ a

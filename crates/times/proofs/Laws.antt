@@ -6,7 +6,8 @@ use native.Mathlib.Omega.{arith}
 use native.Mathlib.Nat.{div-add-mod', mod-lt, mul-le-mul-right, le-refl}
 use lib.Dec.{leb, eqb}
 use borrow.Author.Tests.{leb-true, le-leb, eqb-true, eqb-false, eq-eqb, ne-eqb}
-use Rattle.base.specs.Choice.{both, within, both-left, both-right, by-test, either, product}
+use Rattle.base.specs.Choice.{both, within}
+use Rattle.base.proofs.Choice.{both-left, both-right, by-test, either, product}
 use Rattle.times.specs.Times.{tick, quotientUp, back, scaleAllowed, timelineAllowed, Limits}
 
 -- rounded up: enough, and no more than enough

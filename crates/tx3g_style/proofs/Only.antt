@@ -7,9 +7,11 @@ use native.Mathlib.Omega.{arith}
 use native.Mathlib.Nat.{add-zero, add-suc, le-antisymm}
 use lib.Dec.{ltb, leb}
 use borrow.Author.Tests.{leb-true, ltb-true, not-false}
-use Rattle.base.specs.Choice.{both, both-left, both-right, either}
+use Rattle.base.specs.Choice.{both}
+use Rattle.base.proofs.Choice.{both-left, both-right, either}
 use Rattle.verdict.specs.declared.Verdict.the-variants.{Fine}
-use Rattle.verdict.specs.Judgement.{_gives_at_, each, each-fine, both-fine}
+use Rattle.verdict.specs.Judgement.{_gives_at_, each}
+use Rattle.verdict.proofs.Judgement.{each-fine, both-fine}
 use Rattle.fields.specs.BigEndian.{be}
 use Rattle.bodies.specs.declared.Body.the-variants.{At}
 use Rattle.bodies.proofs.Filled.{fine-false}

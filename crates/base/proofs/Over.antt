@@ -1,0 +1,81 @@
+-- Laws of lists that are written from their front or from a place on.
+use Prim.Native.Nat.{ℕ, _+_, _≤_}
+use mathlib.Core.Path.{_≡_, refl, sym, ap, _∙_}
+use mathlib.Core.List.{List, [], _++_, append-assoc, append-nil}
+use native.Mathlib.Omega.{arith}
+use native.Mathlib.Nat.{add-zero, add-assoc}
+use lib.ListN.{length, take, drop, length-append, length-drop, length-take, take-append-drop}
+use lib.Seq.{paste, sets, sets-eq, take-at, drop-append-add, drop-drop, length-take-le}
+use Rattle.base.specs.Over.{over, wrote}
+
+pub over-nil : (d : List ℕ) → d ≡ over [] d
+unfolding over
+over-nil d = refl
+
+pub length-over : (p d : List ℕ) → length p ≤ length d → length (over p d) ≡ length d
+unfolding over
+length-over p d h = simp (length-append, length-drop) (omega arith)
+
+-- n elements of s, pasted behind p
+pub over-more : (p d s : List ℕ) (at n : ℕ) → at ≡ length p → length (take n s) ≡ n → paste (over p d) at s n ≡ over (p ++ take n s) d
+unfolding over
+over-more p d s at n e l =
+    let front : take at (over p d) ≡ p = take-at p (drop (length p) d) at (sym e) in
+    let back : drop (at + n) (over p d) ≡ drop (length (p ++ take n s)) d =
+    ap (λ (k : ℕ). drop (k + n) (p ++ drop (length p) d)) e
+    ∙ drop-append-add p (drop (length p) d) n
+    ∙ drop-drop n (length p) d
+    ∙ ap (λ (k : ℕ). drop k d) (ap (λ (k : ℕ). length p + k) (sym l) ∙ sym (length-append p (take n s))) in
+    ap (λ (q : List ℕ). q ++ take n s ++ drop (at + n) (over p d)) front ∙ ap (λ (q : List ℕ). p ++ take n s ++ q) back
+
+put : (p d vs : List ℕ) (at : ℕ) → at ≡ length p → take at (over p d) ++ vs ++ drop (at + length vs) (over p d) ≡ over (p ++ vs) d
+unfolding over
+put p d vs at e =
+    let front : take at (over p d) ≡ p = take-at p (drop (length p) d) at (sym e) in
+    let back : drop (at + length vs) (over p d) ≡ drop (length (p ++ vs)) d =
+    ap (λ (k : ℕ). drop (k + length vs) (p ++ drop (length p) d)) e
+    ∙ drop-append-add p (drop (length p) d) (length vs)
+    ∙ drop-drop (length vs) (length p) d
+    ∙ ap (λ (k : ℕ). drop k d) (sym (length-append p vs)) in
+    ap (λ (q : List ℕ). q ++ vs ++ drop (at + length vs) (over p d)) front ∙ ap (λ (q : List ℕ). p ++ vs ++ q) back
+
+-- a run of stores behind p
+pub over-sets : (p d vs : List ℕ) (at : ℕ) → at ≡ length p → at + length vs ≤ length d → sets (over p d) at vs ≡ over (p ++ vs) d
+over-sets p d vs at e h =
+    let lo = length-over p d (omega arith) in
+    sets-eq vs (over p d) at (omega arith) ∙ put p d vs at e
+
+pub over-wrote : (p d v : List ℕ) (at : ℕ) → at ≡ length p → wrote (over p d) at v ≡ over (p ++ v) d
+unfolding wrote
+over-wrote p d v at e = put p d v at e
+
+pub wrote-nil : (d : List ℕ) (at : ℕ) → d ≡ wrote d at []
+unfolding wrote
+wrote-nil d at = rw (add-zero, append-nil) (sym (take-append-drop at d))
+
+pub sets-wrote : (d : List ℕ) (at : ℕ) (v : List ℕ) → at + length v ≤ length d → sets d at v ≡ wrote d at v
+unfolding wrote
+sets-wrote d at v h = sets-eq v d at h
+
+pub paste-wrote : (d : List ℕ) (at : ℕ) (s : List ℕ) (n : ℕ) → n ≤ length s → paste d at s n ≡ wrote d at (take n s)
+unfolding wrote
+paste-wrote d at s n h = rw (length-take-le n s h)
+
+pub length-wrote : (d : List ℕ) (at : ℕ) (v : List ℕ) → at + length v ≤ length d → length (wrote d at v) ≡ length d
+unfolding wrote
+length-wrote d at v h = simp (length-append, length-drop, length-take) (omega arith)
+
+-- b behind a
+pub wrote-more : (d : List ℕ) (at next : ℕ) (a b : List ℕ) → at + length a ≤ length d → next ≡ at + length a → wrote (wrote d at a) next b ≡ wrote d at (a ++ b)
+unfolding wrote
+wrote-more d at next a b h e =
+    let l : length (take at d ++ a) ≡ next = length-append (take at d) a ∙ ap (λ (k : ℕ). k + length a) (length-take-le at d (omega arith)) ∙ sym e in
+    let t : take next (take at d ++ a ++ drop (at + length a) d) ≡ take at d ++ a = take-at (take at d ++ a) (drop (at + length a) d) next l in
+    let r : drop (next + length b) (take at d ++ a ++ drop (at + length a) d) ≡ drop (at + length (a ++ b)) d =
+    ap (λ (k : ℕ). drop (k + length b) (take at d ++ a ++ drop (at + length a) d)) (sym l)
+    ∙ drop-append-add (take at d ++ a) (drop (at + length a) d) (length b)
+    ∙ drop-drop (length b) (at + length a) d
+    ∙ ap (λ (k : ℕ). drop k d) (add-assoc at (length a) (length b) ∙ ap (λ (k : ℕ). at + k) (sym (length-append a b))) in
+    ap (λ (q : List ℕ). q ++ b ++ drop (next + length b) (take at d ++ a ++ drop (at + length a) d)) t
+    ∙ ap (λ (q : List ℕ). take at d ++ a ++ b ++ q) r
+    ∙ ap (λ (q : List ℕ). q ++ drop (at + length (a ++ b)) d) (append-assoc (take at d) a b)
