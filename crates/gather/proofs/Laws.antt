@@ -15,7 +15,8 @@ use Rattle.base.proofs.Choice.{either, by-test}
 use Rattle.base.specs.Over.{wrote}
 use Rattle.timeline.specs.Lists.{listed}
 use Rattle.timeline.specs.Cues.{Cue, sameId, sameBody}
-use Rattle.timeline.specs.Unpacking.{fresh, till, indexOf, Taking, refused, going, again, onIndex, takeBody}
+use Rattle.timeline.specs.Unpacking.{fresh, till, indexOf}
+use Rattle.timeline.specs.Joining.{Taking, refused, going, again, onIndex, takeBody}
 use Rattle.rows.specs.declared.Row.{Row}
 use Rattle.rows.specs.Table.{rowAt, numbersOf, bodyAt, cueAt, known, sameTexts, againNumber, Placed, Missing, Good}
 use Rattle.rows.proofs.Laws.{row-written, row-kept, ending, row-ended, row-ended-other, listed-same, listed-set, length-known, known-at, id-missing, id-found}

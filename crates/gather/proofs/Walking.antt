@@ -11,7 +11,8 @@ use Rattle.boxes.specs.Boxes.{part}
 use Rattle.timeline.specs.Lists.{listed}
 use Rattle.timeline.specs.Cues.{Body, Cue}
 use Rattle.timeline.specs.Tracks.{total}
-use Rattle.timeline.specs.Unpacking.{Taking, refused, going, takeBody, onTaking, takeAll, stopped, done, onSample, unpackFrom, unpack}
+use Rattle.timeline.specs.Unpacking.{stopped, done, unpack}
+use Rattle.timeline.specs.Joining.{Taking, refused, going, takeBody, onTaking, takeAll, onSample, unpackFrom}
 use Rattle.timeline.proofs.Listing.{length-listed, listed-from}
 use Rattle.timeline.proofs.Holding.{total-snoc}
 use Rattle.wvtt_cues.specs.Cues.{sampleCues}

@@ -4,7 +4,8 @@ use mathlib.Core.Path.{_≡_}
 use mathlib.Core.List.{List}
 use lib.ListN.{length}
 use Rattle.timeline.specs.Tracks.{total}
-use Rattle.timeline.specs.Unpacking.{Taking, refused, going, Unpacked, stopped, done}
+use Rattle.timeline.specs.Unpacking.{Unpacked, stopped, done}
+use Rattle.timeline.specs.Joining.{Taking, refused, going}
 use Rattle.track.specs.Track.{trackOf}
 use Rattle.rows.specs.Table.{known, Good}
 use Rattle.gather.specs.declared.Took.{Took}

@@ -1,4 +1,4 @@
--- A case of document 01, computed.
+-- Closed examples of the check and of unpacking, computed, over the cues of document 01's first case.
 use Prim.Native.Nat.{_<_, _≤_, suc, zero, ℕ}
 use mathlib.Core.Path.{_≡_, ap, refl, subst, sym}
 use mathlib.Core.Logic.{_≢_, inl, inr}
@@ -20,14 +20,6 @@ cue n a b = record { start = a; end = b; body = record { id = some n; identifier
 
 abbrev three : List Cue
 three = cue 1 11000 12500 ∷ cue 2 13000 18000 ∷ cue 3 17000 20000 ∷ []
-
-pub durations : map (λ (s : Sample). s .duration) (packed three 20000) ≡ 11000 ∷ 1500 ∷ 500 ∷ 4000 ∷ 1000 ∷ 2000 ∷ []
-unfolding packed
-durations = refl
-
-pub hold : map (λ (s : Sample). map (λ (b : Body). b .id) (s .held)) (packed three 20000) ≡ [] ∷ (some 1 ∷ []) ∷ [] ∷ (some 2 ∷ []) ∷ (some 2 ∷ some 3 ∷ []) ∷ (some 3 ∷ []) ∷ []
-unfolding packed
-hold = refl
 
 pub own-track : check three 20000 (packed three 20000) ≡ accepted
 unfolding packed check sameId sameList

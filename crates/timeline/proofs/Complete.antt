@@ -16,12 +16,14 @@ use Rattle.base.specs.Choice.{pick}
 use Rattle.timeline.specs.Cues.{Body, Cue, Distinct, Named, Ordered, Pairs, Proper, runningAt, runs, sameId}
 use Rattle.timeline.specs.Tracks.{Positive, Right, Sample, copy, heldAt, heldFrom, total}
 use Rattle.timeline.specs.Packing.{packed}
-use Rattle.timeline.specs.Unpacking.{ListOf, Taking, done, fresh, going, indexOf, withId, onIndex, onSample, onTaking, refused, takeAll, takeBody, till, unpack, unpackFrom}
+use Rattle.timeline.specs.Unpacking.{ListOf, UnpacksExactly, done, fresh, indexOf, till, unpack}
+use Rattle.timeline.specs.Joining.{Taking, going, joined, onIndex, onSample, onTaking, refused, takeAll, takeBody, unpackFrom, withId}
 use Rattle.timeline.proofs.Running.{body-same, id-same, moves, running-append, running-no, running-yes, runs-early, runs-late, runs-yes, same-id}
 use Rattle.timeline.proofs.Holding.{from-later, from-now, some-inj}
 use Rattle.timeline.proofs.Packed.{packed-right}
 use Rattle.timeline.proofs.Splitting.{split-positive, split-right, split-total}
-use Rattle.timeline.proofs.Taking.{again-is, unpack-right}
+use Rattle.timeline.proofs.Taking.{again-is, joined-right}
+use Rattle.timeline.proofs.Joined.{joined-is}
 
 -- a cue as it is known when the track has been read up to tick b
 unfoldable pub clip : ℕ → Cue → Cue
@@ -277,13 +279,18 @@ module _ (cs : List Cue) (T : ℕ) (ok : Proper cs T) (nm : Named cs) (small : l
       (λ t lo hi. sym (from-later b s ss t lo) ∙ holds t (omega arith) hi)
 
 -- unpacking answers a list exactly if it is proper, has IDs, is not too long, and the track is right for it
-pub unpacks-iff : (cs : List Cue) (track : List Sample) → Positive track → (unpack track ≡ done cs) ↔ ListOf cs track
-unfolding unpack heldAt clips
-unpacks-iff cs track pos = (
-  (λ h. unpack-right track cs pos h),
+joins-iff : (cs : List Cue) (track : List Sample) → Positive track → (joined track ≡ done cs) ↔ ListOf cs track
+unfolding joined heldAt clips
+joins-iff cs track pos = (
+  (λ h. joined-right track cs pos h),
   λ f. walk cs (total track) (f .proper) (f .ids) (f .few) track 0 0 [] cs refl (λ x m. absurd (List·Memᴰ·not-nil m)) (λ x m. omega arith) (f .right .positive) (omega arith)
       (λ t lo hi. f .right .holds t hi),
 )
+
+pub unpacks-iff : UnpacksExactly
+unpacks-iff cs track pos =
+    let w = joins-iff cs track pos in
+    ((λ h. w .0 (joined-is track pos ∙ h)), λ f. sym (joined-is track pos) ∙ w .1 f)
 
 -- cutting a sample in two changes nothing
 pub split-unpack : (cs : List Cue) (p q : List Sample) (s : Sample) (m n : ℕ) → 0 < m → 0 < n → m + n ≡ s .duration → Positive (p ++ s ∷ q)

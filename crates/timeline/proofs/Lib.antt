@@ -12,6 +12,7 @@ pub mod Indexed
 pub mod Listing
 pub mod Stopping
 pub mod Taking
+pub mod Joined
 pub mod Complete
 pub mod Retimed
 pub mod Cases

@@ -7,7 +7,7 @@ use Rattle.timeline.specs.Tracks.{Positive, Sample, total}
 use Rattle.timeline.specs.Checking.{accepted, check}
 use Rattle.timeline.specs.Unpacking.{done, unpack}
 use Rattle.timeline.proofs.Answers.{accepts}
-use Rattle.timeline.proofs.Taking.{unpack-right}
+use Rattle.timeline.proofs.Joined.{unpack-right}
 
 -- the cue, its ticks changed by f
 unfoldable pub retimed : (ℕ → ℕ) → Cue → Cue

@@ -1,4 +1,4 @@
--- What unpacking answers is a proper list, and its track is right for it.
+-- What unpacking as the code does it answers is a proper list, and its track is right for it.
 use Prim.Native.Nat.{_+_, _<_, _≤_, suc, ℕ}
 use mathlib.Core.Path.{_∙_, _≡_, ap, ap₂, refl, subst, sym}
 use mathlib.Core.Logic.{_≢_, _⊎_, inl, inr}
@@ -16,7 +16,8 @@ use Rattle.base.proofs.Choice.{by-test, either, true-false}
 use Rattle.base.specs.Choice.{pick}
 use Rattle.timeline.specs.Cues.{Body, Cue, Distinct, Named, Ordered, Pairs, Proper, runningAt, runs, sameBody, sameId}
 use Rattle.timeline.specs.Tracks.{Right, Sample, heldAt, heldFrom, total}
-use Rattle.timeline.specs.Unpacking.{ListOf, Taking, Unpacked, again, done, fresh, going, indexOf, withId, noCue, onIndex, onSample, onTaking, orNext, refused, stopped, takeAll, takeBody, till, unpack, unpackFrom}
+use Rattle.timeline.specs.Unpacking.{ListOf, Unpacked, done, fresh, indexOf, noCue, orNext, stopped, till}
+use Rattle.timeline.specs.Joining.{Taking, again, going, joined, onIndex, onSample, onTaking, refused, takeAll, takeBody, unpackFrom, withId}
 use Rattle.timeline.proofs.Running.{id-same, running-append, running-no, running-yes, runs-early, runs-is, runs-late, runs-not, runs-yes, same-body, same-id}
 use Rattle.timeline.proofs.Holding.{from-later, from-now, total-snoc}
 
@@ -72,7 +73,7 @@ abbrev code : Option ℕ → ℕ
 code none = 0
 code (some j) = suc j
 
-found : (n : Option ℕ) (cs : List Cue) (j : ℕ) → indexOf n cs ≡ some j → (p : List Cue) × (c : Cue) × (q : List Cue) × (cs ≡ p ++ c ∷ q) × (length p ≡ j) × (c .body .id ≡ n)
+pub found : (n : Option ℕ) (cs : List Cue) (j : ℕ) → indexOf n cs ≡ some j → (p : List Cue) × (c : Cue) × (q : List Cue) × (cs ≡ p ++ c ∷ q) × (length p ≡ j) × (c .body .id ≡ n)
 unfolding indexOf
 found n [] j h = absurd (omega (arith, ap code h))
 found n (c ∷ cs) j h =
@@ -86,7 +87,7 @@ found n (c ∷ cs) j h =
     go none g k rest = absurd (omega (arith, ap code k))
     go (some i) g k rest = let w = rest i g in (c ∷ w .0, w .1, w .2, ap (λ (l : List Cue). c ∷ l) (w .3), omega (arith, ap code k, w .4), w .5)
 
-missing : (n : Option ℕ) (cs : List Cue) → indexOf n cs ≡ none → (x : Cue) → List·Memᴰ x cs → n ≢ x .body .id
+pub missing : (n : Option ℕ) (cs : List Cue) → indexOf n cs ≡ none → (x : Cue) → List·Memᴰ x cs → n ≢ x .body .id
 unfolding indexOf
 missing n [] h x m = absurd (List·Memᴰ·not-nil m)
 missing n (c ∷ cs) h x m =
@@ -336,9 +337,9 @@ unpacks p (s ∷ ss) i cs cs₂ pos f h =
         (ap (λ (z : ℕ). unpackFrom z (suc i) cs₁ ss) far ∙ k))
 
 -- what unpacking answers is a proper list, and its track is right for it
-pub unpack-right : (track : List Sample) (cs : List Cue) → ((s : Sample) → List·Memᴰ s track → 0 < s .duration) → unpack track ≡ done cs → ListOf cs track
-unfolding unpack total Pairs heldAt
-unpack-right track cs pos h =
+pub joined-right : (track : List Sample) (cs : List Cue) → ((s : Sample) → List·Memᴰ s track → 0 < s .duration) → joined track ≡ done cs → ListOf cs track
+unfolding joined total Pairs heldAt
+joined-right track cs pos h =
     unpacks [] track 0 [] cs pos
     (record {
       proper = record { lasts = λ c m. absurd (List·Memᴰ·not-nil m); ends = λ c m. absurd (List·Memᴰ·not-nil m); ordered = tt; distinct = tt };

@@ -4,3 +4,4 @@ pub mod Tracks
 pub mod Packing
 pub mod Checking
 pub mod Unpacking
+pub mod Joining

@@ -13,8 +13,10 @@ use borrow.Author.Tests.{eqb-true, eqb-false}
 use Rattle.base.specs.Choice.{pick}
 use Rattle.base.proofs.Choice.{either, by-test}
 use Rattle.timeline.specs.Cues.{Body, Cue, sameBody}
-use Rattle.timeline.specs.Tracks.{Sample}
-use Rattle.timeline.specs.Unpacking.{noCue, fresh, till, indexOf, Taking, refused, going, again, onIndex, withId, takeBody, onTaking, takeAll, Unpacked, stopped, done, onSample, unpackFrom, unpack}
+use Rattle.timeline.specs.Tracks.{Sample, Positive}
+use Rattle.timeline.specs.Unpacking.{noCue, fresh, till, indexOf, Unpacked, stopped, done, unpack}
+use Rattle.timeline.proofs.Joined.{joined-is}
+use Rattle.timeline.specs.Joining.{joined, Taking, refused, going, again, onIndex, withId, takeBody, onTaking, takeAll, onSample, unpackFrom}
 
 module _ (P : Body → Type 0) where
   -- it holds of every cue
@@ -103,6 +105,6 @@ module _ (P : Body → Type 0) where
       go (refused n) q f = tt
       go (going cs2 k2) q f = f cs2 q
 
-  pub unpack-keeps : (track : List Sample) (cs : List Cue) → ((s : Sample) → List·Memᴰ s track → EachBody (s .held)) → unpack track ≡ done cs → EachCue cs
-  unfolding unpack
-  unpack-keeps track cs p e = subst Found e (from-found track 0 0 [] (λ i l. absurd (not-suc-le-zero l)) p)
+  pub unpack-keeps : (track : List Sample) (cs : List Cue) → Positive track → ((s : Sample) → List·Memᴰ s track → EachBody (s .held)) → unpack track ≡ done cs → EachCue cs
+  unfolding joined
+  unpack-keeps track cs pos p e = subst Found (joined-is track pos ∙ e) (from-found track 0 0 [] (λ i l. absurd (not-suc-le-zero l)) p)

@@ -18,15 +18,16 @@ use Rattle.verdict.proofs.Judgement.{both-fine, not-given, each-fine}
 use Rattle.times.specs.Times.{back, scaleAllowed, timelineAllowed, Limits}
 use Rattle.times.proofs.Laws.{timeline-limits}
 use Rattle.timeline.specs.Cues.{Body, Cue}
-use Rattle.timeline.specs.Tracks.{Sample, Positive, total}
+use Rattle.timeline.specs.Tracks.{Sample, total}
 use Rattle.timeline.specs.Unpacking.{noCue, stopped, done, unpack}
 use Rattle.timeline.proofs.Listing.{mem-listed}
 use Rattle.timeline.proofs.Indexed.{index-mem}
-use Rattle.timeline.proofs.Taking.{unpack-right}
+use Rattle.timeline.proofs.Joined.{unpack-right}
 use Rattle.wvtt.specs.Sound.{Sound, AllSound}
 use Rattle.wvtt_cues.proofs.Sound.{sample-sound}
 use Rattle.track.specs.Track.{rowCount, sampleOf, trackOf, judgeTrack}
 use Rattle.track.proofs.Laws.{fine-readable}
+use Rattle.track.proofs.Samples.{track-positive}
 use Rattle.rows.specs.declared.Row.{Row}
 use Rattle.rows.specs.Table.{rowAt, bodyAt, cueAt, known, Placed, Good}
 use Rattle.rows.proofs.Laws.{length-known, known-at}
@@ -73,12 +74,6 @@ row-ready samples r p y w a b = record {
 }
 
 module _ (table samples : List ℕ) (fine : judgeTrack table samples ≡ Fine) where
-  pub track-positive : Positive (trackOf table samples)
-  unfolding trackOf sampleOf
-  track-positive s m =
-      let w = mem-listed (sampleOf table samples) (rowCount table) s m in
-      omega (arith, ap (λ (x : Sample). x .duration) (w .2), fine-readable table samples fine .1 (w .0) (w .1))
-
   track-sound : (s : Sample) → List·Memᴰ s (trackOf table samples) → EachBody Sound (s .held)
   unfolding trackOf sampleOf
   track-sound s m =
@@ -86,7 +81,7 @@ module _ (table samples : List ℕ) (fine : judgeTrack table samples ≡ Fine) w
       subst (λ (x : Sample). EachBody Sound (x .held)) (sym (w .2)) (all-sound _ (sample-sound _ (fine-readable table samples fine .0 .reads (w .0) (w .1))))
 
   pub list-sound : (cs : List Cue) → unpack (trackOf table samples) ≡ done cs → EachCue Sound cs
-  list-sound cs e = unpack-keeps Sound (trackOf table samples) cs track-sound e
+  list-sound cs e = unpack-keeps Sound (trackOf table samples) cs (track-positive table samples fine) track-sound e
 
   -- the rows of the list are ready to be written
   pub rows-ready : (tab : List ℕ) (n : ℕ) → Good (length samples) tab n → done (known samples tab n) ≡ unpack (trackOf table samples)
@@ -95,7 +90,7 @@ module _ (table samples : List ℕ) (fine : judgeTrack table samples ≡ Fine) w
       let cs = known samples tab n in
       let l : i < length cs = omega (arith, length-known samples tab n) in
       let here = known-at samples tab n i h in
-      let list = unpack-right (trackOf table samples) cs track-positive (sym e) in
+      let list = unpack-right (trackOf table samples) cs (track-positive table samples fine) (sym e) in
       let m = index-mem cs i noCue l in
       let lasts = list .proper .lasts (getD cs i noCue) m in
       let ends = list .proper .ends (getD cs i noCue) m in

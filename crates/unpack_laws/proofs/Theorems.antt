@@ -27,7 +27,7 @@ use Rattle.timeline.specs.Unpacking.{Unpacked as Listing, stopped, done, unpack
 use Rattle.timeline.proofs.Indexed.{index-mem}
 use Rattle.timeline.proofs.Listing.{listed-at}
 use Rattle.timeline.proofs.Packed.{packed-right}
-use Rattle.timeline.proofs.Taking.{unpack-right}
+use Rattle.timeline.proofs.Joined.{unpack-right}
 use Rattle.timeline.proofs.Complete.{round-trip}
 use Rattle.timeline.proofs.Retimed.{retimed, unpacked-accepted}
 use Rattle.wvtt.specs.Sound.{Sound as SoundBody}
@@ -40,7 +40,8 @@ use Rattle.unpack_write.specs.Records.{idOf, recordsOf, poolOf}
 use Rattle.unpack.specs.declared.Unpacked.{Unpacked}
 use Rattle.unpack.specs.declared.Unpacked.the-variants.{Done, Refused as Stopped}
 use Rattle.unpack.specs.Unpacking.{stopsAt, listIn, trackCues, trackMs, badTimes, judgeTimes, judgeEnd, judgeUnpack, answerBy, doneWith, unpackOf}
-use Rattle.unpack.proofs.Laws.{track-positive, list-sound, list-done, cues-done}
+use Rattle.track.proofs.Samples.{track-positive}
+use Rattle.unpack.proofs.Laws.{list-sound, list-done, cues-done}
 use Rattle.unpack_laws.proofs.Reading.{Fits, length-recs, count-recs, id-read, start-read, end-read, identifier-read, settings-read, payload-read, reserved-read, identifier-is, settings-is, payload-is, texts-inside, cues-are}
 
 -- ---- a success

@@ -4,7 +4,10 @@ use mathlib.Core.Path.{_≡_, refl, sym, ap, _∙_, subst}
 use lib.ListN.{length, drop}
 use Rattle.track.proofs.Laws.{offset-suc}
 use Rattle.track.specs.Track.{rowCount, offsetOf, trackOf}
-use Rattle.timeline.specs.Unpacking.{unpackFrom, unpack}
+use Rattle.timeline.specs.Unpacking.{unpack}
+use Rattle.timeline.proofs.Joined.{joined-is}
+use Rattle.track.proofs.Samples.{track-positive}
+use Rattle.timeline.specs.Joining.{joined, unpackFrom}
 use Rattle.timeline.specs.Tracks.{total}
 use Rattle.timeline.specs.Lists.{listed}
 use Rattle.rows.specs.Table.{Good, known}
@@ -22,8 +25,8 @@ abbrev μ-loop : tie.MeasureT-loop
 μ-loop table samples tab₀ m n₀ b₀ at₀ i₀ tab n b at i = m - i
 
 loop-holds : tie.Need-loop-holds Inv-loop μ-loop
-unfolding rowCount offsetOf ticksTo listed total known unpack
-loop-holds c = (omega arith, refl, refl, omega arith, omega arith, refl, omega arith, good-none _ _, c .before .before .before .pre .1, refl)
+unfolding rowCount offsetOf ticksTo listed total known joined
+loop-holds c = (omega arith, refl, refl, omega arith, omega arith, refl, omega arith, good-none _ _, c .before .before .before .pre .1, joined-is (trackOf (c .before .before .before .args .table .now) (c .before .before .before .args .samples .now)) (track-positive (c .before .before .before .args .table .now) (c .before .before .before .args .samples .now) (c .before .before .before .pre .0)))
 
 add-e : tie.Need-add-e Inv-loop μ-loop
 add-e c = let l = c .before .before .loop in omega (arith, rows-most (c .before .before .before .before .before .before .args .table .now) (c .before .before .before .before .before .before .args .samples .now) (c .before .before .before .before .before .before .pre .0), l .inv .1, l .inv .6, c .duration-at .ensures .1, c .before .loop-test .taken)

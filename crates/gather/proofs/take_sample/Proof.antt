@@ -3,7 +3,7 @@ use mathlib.Core.Path.{_≡_, sym, ap, _∙_, subst}
 use lib.ListN.{length}
 use Rattle.wvtt_cues.proofs.Walk.{heldFrom, Next, Inside, next-means}
 use Rattle.wvtt_cues.specs.Cues.{sampleCues, heldBy}
-use Rattle.timeline.specs.Unpacking.{takeBody, takeAll}
+use Rattle.timeline.specs.Joining.{takeBody, takeAll}
 use Rattle.boxes.specs.Boxes.{part}
 use Rattle.rows.proofs.Laws.{held-moved, placed-moved}
 use Rattle.rows.specs.Table.{Good, Placed, known, bodyAt, newRow}
