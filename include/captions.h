@@ -1,7 +1,7 @@
 /* WebVTT (wvtt) and 3GPP text (tx3g) samples and sample entries, cue lists and tracks.
  *
  * Bytes are lent as a pointer, which is not null even where the length is 0, and a length. An output overlaps nothing else that is lent.
- * Every refusal gives a number and a place and writes nothing; on success bytes past the result keep their content. What an answer
+ * Every refusal gives a number and, but for a count, a place, and writes nothing; on success bytes past the result keep their content. What an answer
  * leaves free is 0. Nothing is allocated, and nothing is kept after a call. */
 #ifndef CAPTIONS_H
 #define CAPTIONS_H
@@ -57,8 +57,11 @@ typedef struct CaptionsStep {
     size_t next;   /* where it ends and the next box begins */
 } CaptionsStep;
 
-/* A cue's texts go from a byte of the sample to before another; a text that is not there is empty. */
+/* A cue, a refusal, or at the end neither: number 0 and nothing found. A cue's texts go from a byte of the sample to before another; a text
+   that is not there is empty. */
 typedef struct CaptionsCue {
+    uint32_t number;
+    size_t place;
     bool found;
     bool named; /* whether it has an ID */
     uint32_t id;
@@ -88,7 +91,9 @@ CaptionsStep captions_step(const uint8_t *bytes, size_t bytes_len, size_t at);
 uint64_t captions_tick(uint32_t scale, uint32_t ms);
 uint64_t captions_ms(uint32_t scale, uint64_t tick);
 
-/* A WebVTT sample; and its first cue from `from` on: 0, or the `next` of the cue before. */
+/* A WebVTT sample; and its first cue from `from` on: 0, or the `next` of the cue before. The walk gives 1 or 2 for a bad header
+   before the cue or among its boxes, and judges nothing else: of a sample that captions_judge_sample refuses for another reason, the last
+   box of a kind counts, and a vsid that is not 4 bytes counts as none. */
 CaptionsJudgement captions_judge_sample(const uint8_t *sample, size_t sample_len);
 CaptionsCue captions_next_cue(const uint8_t *sample, size_t sample_len, size_t from);
 
@@ -163,10 +168,13 @@ typedef struct CaptionsTextBox {
     size_t offset;
 } CaptionsTextBox;
 
-/* A modifier of a good sample, by the type of its box. Its numbers, and what stands from `from` on:
+/* A modifier of a good sample, a refusal, or at the end neither: number 0 and nothing found. Its numbers and what stands from `from` on
+   go by the type of its box:
    styl: count; styles of 12 bytes. hlit, blnk: start, end. hclr: red, green, blue, alpha. krok: start time, count; entries of 8 bytes.
    dlay: time. href: start, end; the URL up to `end`, and the alternative text. tbox: the 8 bytes. twrp: the flag. */
 typedef struct CaptionsModifier {
+    uint32_t number;
+    size_t place;
     bool found;
     uint32_t kind;
     uint32_t first;
@@ -185,7 +193,8 @@ CaptionsJudgement captions_judge_tx3g_entry(const uint8_t *entry, size_t entry_l
 CaptionsTx3g captions_judge_tx3g_sample(const uint8_t *entry, size_t entry_len, const uint8_t *sample, size_t sample_len);
 CaptionsStyle captions_style(const uint8_t *entry, size_t entry_len, const uint8_t *sample, size_t sample_len, size_t k);
 CaptionsTextBox captions_text_box(const uint8_t *entry, size_t entry_len, const uint8_t *sample, size_t sample_len);
-/* Where a sample's modifiers begin; and the first modifier from a place on: there, or the `next` of the one before. */
+/* Where a sample's modifiers begin; and the first modifier from a place on: there, or the `next` of the one before. A bad header gives
+   1 or 2; a modifier box that its content does not fill, which a good sample never holds, is passed over. */
 size_t captions_modifiers_from(const uint8_t *sample, size_t sample_len);
 CaptionsModifier captions_next_modifier(const uint8_t *sample, size_t sample_len, size_t from);
 

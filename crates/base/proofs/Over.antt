@@ -5,7 +5,7 @@ use mathlib.Core.List.{List, [], _++_, append-assoc, append-nil}
 use native.Mathlib.Omega.{arith}
 use native.Mathlib.Nat.{add-zero, add-assoc}
 use lib.ListN.{length, take, drop, length-append, length-drop, length-take, take-append-drop}
-use lib.Seq.{paste, sets, sets-eq, take-at, drop-append-add, drop-drop, length-take-le}
+use lib.Seq.{drop-at, paste, sets, sets-eq, take-at, drop-append-add, drop-drop, length-take-le}
 use Rattle.base.specs.Over.{over, wrote}
 
 pub over-nil : (d : List ℕ) → d ≡ over [] d
@@ -79,3 +79,12 @@ wrote-more d at next a b h e =
     ap (λ (q : List ℕ). q ++ b ++ drop (next + length b) (take at d ++ a ++ drop (at + length a) d)) t
     ∙ ap (λ (q : List ℕ). take at d ++ a ++ b ++ q) r
     ∙ ap (λ (q : List ℕ). q ++ drop (at + length (a ++ b)) d) (append-assoc (take at d) a b)
+
+-- the front of what was written, and what stands behind it
+pub take-over : (p d : List ℕ) (n : ℕ) → n ≡ length p → take n (over p d) ≡ p
+unfolding over
+take-over p d n e = take-at p (drop (length p) d) n (sym e)
+
+pub drop-over : (p d : List ℕ) (n : ℕ) → n ≡ length p → drop n (over p d) ≡ drop n d
+unfolding over
+drop-over p d n e = drop-at p (drop (length p) d) n (sym e) ∙ ap (λ (k : ℕ). drop k d) (sym e)

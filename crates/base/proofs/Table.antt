@@ -7,7 +7,11 @@ use native.Mathlib.Nat.{add-zero, zero-add, add-suc, suc-add, le-of-suc-le-suc, 
 use lib.Dec.{T}
 use Rattle.base.specs.Choice.{both}
 use lib.ListN.{length, getD}
-use Rattle.base.specs.Table.{every}
+
+-- the test f passes at each entry of the list and its place, counted from i
+abbrev pub every : (ℕ → ℕ → Bool) → ℕ → List ℕ → Bool
+every f i [] = true
+every f i (x ∷ xs) = both (f i x) (every f (suc i) xs)
 
 pub first-of : (a b : Bool) → T (both a b) → T a
 first-of true b t = tt

@@ -1,6 +1,6 @@
 -- Laws of the definitions of specs/Boxes.antt: what a step that gives a box says, and the boxes of a container with no fuel in sight.
 use Prim.Native.Nat.{ℕ, zero, suc, _+_, _-_, _≤_, _<_}
-use mathlib.Core.Path.{_≡_, refl, sym, ap, _∙_}
+use mathlib.Core.Path.{_≡_, refl, sym, _∙_}
 use mathlib.Core.List.{List, [], _∷_}
 use mathlib.Core.Bool.{Bool, true, false}
 use mathlib.Core.Logic.{⊎-elim}
@@ -9,7 +9,7 @@ use native.Mathlib.Nat.{not-suc-le-zero}
 use types.Run.{OneOf}
 use denote.Enum.Declared.{tagOf, declared}
 use lib.Dec.{ltb, leb}
-use borrow.Author.Tests.{ltb-false, leb-false, le-leb}
+use borrow.Author.Tests.{ltb-false, leb-false, le-leb, lt-leb, lt-ltb, le-ltb}
 use Rattle.base.specs.Choice.{pick}
 use Rattle.verdict.specs.declared.Refusal.{Refusal}
 use Rattle.verdict.specs.Judgement.{fault}
@@ -43,9 +43,27 @@ step-box s at end k b n e =
     let h4 = ltb-false (end - at) (be 4 s at) (h .2) in
     record { header = sym (h .3); order = omega (arith, h .3, h .4); inside = omega (arith, h .4) }
 
+-- the cases of a step
 pub step-end : (s : List ℕ) (at end : ℕ) → end ≤ at → stepAt s at end ≡ End
 unfolding stepAt
 step-end s at end h = simp (le-leb end at h)
+
+pub step-short : (s : List ℕ) (at end : ℕ) → at < end → end - at < 8 → stepAt s at end ≡ Stopped (fault 1 at)
+unfolding stepAt
+step-short s at end h k = simp (lt-leb end at h, lt-ltb (end - at) 8 k)
+
+pub step-small : (s : List ℕ) (at end : ℕ) → at < end → 8 ≤ end - at → be 4 s at < 8 → stepAt s at end ≡ Stopped (fault 2 at)
+unfolding stepAt
+step-small s at end h k l = simp (lt-leb end at h, le-ltb (end - at) 8 k, lt-ltb (be 4 s at) 8 l)
+
+pub step-past : (s : List ℕ) (at end : ℕ) → at < end → 8 ≤ end - at → 8 ≤ be 4 s at → end - at < be 4 s at → stepAt s at end ≡ Stopped (fault 1 at)
+unfolding stepAt
+step-past s at end h k l m = simp (lt-leb end at h, le-ltb (end - at) 8 k, le-ltb (be 4 s at) 8 l, lt-ltb (end - at) (be 4 s at) m)
+
+pub step-whole : (s : List ℕ) (at end : ℕ) → at < end → 8 ≤ end - at → 8 ≤ be 4 s at → be 4 s at ≤ end - at
+    → stepAt s at end ≡ Box (be 4 s (at + 4)) (at + 8) (at + be 4 s at)
+unfolding stepAt
+step-whole s at end h k l m = simp (lt-leb end at h, le-ltb (end - at) 8 k, le-ltb (be 4 s at) 8 l, le-ltb (end - at) (be 4 s at) m)
 
 on-same : (t : Step) (at : ℕ) (f g : ℕ → Boxes) → ((k b n : ℕ) → t ≡ Box k b n → f n ≡ g n) → onStep t at f ≡ onStep t at g
 on-same (Box k b n) at f g h = rw (h k b n refl)

@@ -1,7 +1,7 @@
 -- The boxes of a container. Document 01, 'WebVTT samples': a 4-byte size counting itself, a 4-byte type, then the body.
 use Prim.Native.Nat.{ℕ, zero, suc, _+_, _-_}
 use mathlib.Core.List.{List, [], _∷_}
-use mathlib.Core.Bool.{Bool, true, false}
+use mathlib.Core.Bool.{Bool, false}
 use lib.Dec.{ltb, leb, eqb}
 use lib.ListN.{take, drop}
 use Rattle.base.specs.Choice.{pick, one-of}

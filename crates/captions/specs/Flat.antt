@@ -1,9 +1,8 @@
 -- Answers as C sees them: structs of numbers. What an answer leaves free is 0.
-use Prim.Native.Nat.{ℕ, _<_}
-use mathlib.Core.Bool.{Bool, true, false}
-use lib.Dec.{eqb, ltb}
+use Prim.Native.Nat.{ℕ}
+use mathlib.Core.Bool.{true, false}
+use lib.Dec.{ltb}
 use Rattle.base.specs.Choice.{pick, both}
-use Rattle.verdict.specs.declared.Refusal.{Refusal}
 use Rattle.verdict.specs.declared.Verdict.{Verdict}
 use Rattle.verdict.specs.declared.Verdict.the-variants.{Fine, Refused}
 use Rattle.boxes.specs.declared.Step.{Step}
@@ -11,7 +10,7 @@ use Rattle.boxes.specs.declared.Step.the-variants.{Box, Refused as Stopped, End
 use Rattle.characters.specs.declared.Counted.{Counted}
 use Rattle.characters.specs.declared.Counted.the-variants.{Characters, Bad}
 use Rattle.wvtt_cues.specs.declared.Held.{Held}
-use Rattle.wvtt_cues.specs.declared.Held.the-variants.{Cue, End}
+use Rattle.wvtt_cues.specs.declared.Held.the-variants.{Cue, Refused as NotWhole, End}
 use Rattle.times.specs.Times.{back}
 use Rattle.pack.specs.declared.Packed.{Packed}
 use Rattle.pack.specs.declared.Packed.the-variants.{Done, Refused as NotPacked}
@@ -26,7 +25,7 @@ use Rattle.tx3g_box.specs.declared.Spot.the-variants.{Sample, Entry, Nowhere}
 use Rattle.tx3g_modifiers.specs.declared.Modifier.{Modifier}
 use Rattle.tx3g_modifiers.specs.declared.Modifier.the-variants.{Styles, Highlight, Blink, Colour, Karaoke, Delay, Link, TextBox, Wrap}
 use Rattle.tx3g_modifiers.specs.declared.Held.{Held as Modified}
-use Rattle.tx3g_modifiers.specs.declared.Held.the-variants.{One, End as NoMore}
+use Rattle.tx3g_modifiers.specs.declared.Held.the-variants.{One, Refused as NotRead, End as NoMore}
 use Rattle.captions.specs.declared.CaptionsPacked.{CaptionsPacked}
 use Rattle.captions.specs.declared.CaptionsTx3g.{CaptionsTx3g}
 use Rattle.captions.specs.declared.CaptionsUnpacked.{CaptionsUnpacked}
@@ -54,23 +53,12 @@ flatStep (Box k b n) = record { number = 0; place = 0; found = true; kind = k; b
 flatStep (Stopped r) = record { number = r .number; place = r .place; found = false; kind = 0; body = 0; next = 0 }
 flatStep NoBox = record { number = 0; place = 0; found = false; kind = 0; body = 0; next = 0 }
 
--- a cue of a sample, or none
-abbrev pub flatHeld : Held → CaptionsCue
-flatHeld (Cue c n) =
+-- no cue, with number and place
+abbrev pub noCue : ℕ → ℕ → CaptionsCue
+noCue n p =
     record {
-      found = true;
-      named = c .named;
-      id = c .id;
-      identifierfrom = c .identifier .from;
-      identifierend = c .identifier .end;
-      settingsfrom = c .settings .from;
-      settingsend = c .settings .end;
-      payloadfrom = c .payload .from;
-      payloadend = c .payload .end;
-      next = n;
-    }
-flatHeld End =
-    record {
+      number = n;
+      place = p;
       found = false;
       named = false;
       id = 0;
@@ -82,6 +70,26 @@ flatHeld End =
       payloadend = 0;
       next = 0;
     }
+
+-- a cue of a sample, or a refusal, or neither at the end
+abbrev pub flatHeld : Held → CaptionsCue
+flatHeld (Cue c n) =
+    record {
+      number = 0;
+      place = 0;
+      found = true;
+      named = c .named;
+      id = c .id;
+      identifierfrom = c .identifier .from;
+      identifierend = c .identifier .end;
+      settingsfrom = c .settings .from;
+      settingsend = c .settings .end;
+      payloadfrom = c .payload .from;
+      payloadend = c .payload .end;
+      next = n;
+    }
+flatHeld (NotWhole r) = noCue (r .number) (r .place)
+flatHeld End = noCue 0 0
 
 -- the time of a tick, 0 where the scale is 0 or the tick is not below 2^48
 unfoldable pub msOf : ℕ → ℕ → ℕ
@@ -117,7 +125,7 @@ flatSpot Nowhere r = record { who = (flatReading r) .who; number = (flatReading 
 
 -- a modifier of a kind, with its numbers and parts
 abbrev pub modifierOf : ℕ → ℕ → ℕ → ℕ → ℕ → ℕ → ℕ → ℕ → ℕ → ℕ → CaptionsModifier
-modifierOf k a b c d f e g h n = record { found = true; kind = k; first = a; second = b; third = c; fourth = d; from = f; end = e; alternativefrom = g; alternativeend = h; next = n }
+modifierOf k a b c d f e g h n = record { number = 0; place = 0; found = true; kind = k; first = a; second = b; third = c; fourth = d; from = f; end = e; alternativefrom = g; alternativeend = h; next = n }
 
 -- by the type of the box: `styl`, `hlit`, `blnk`, `hclr`, `krok`, `dlay`, `href`, `tbox`, `twrp`
 abbrev pub flatModifier : Modifier → ℕ → CaptionsModifier
@@ -131,6 +139,12 @@ flatModifier (Link a b u v) n = modifierOf 0x68726566 a b 0 0 (u .from) (u .end)
 flatModifier (TextBox f) n = modifierOf 0x74626F78 0 0 0 0 f 0 0 0 n
 flatModifier (Wrap w) n = modifierOf 0x74777270 w 0 0 0 0 0 0 0 n
 
+-- no modifier, with number and place
+abbrev pub noModifier : ℕ → ℕ → CaptionsModifier
+noModifier n p = record { number = n; place = p; found = false; kind = 0; first = 0; second = 0; third = 0; fourth = 0; from = 0; end = 0; alternativefrom = 0; alternativeend = 0; next = 0 }
+
+-- a modifier of a sample, or a refusal, or neither at the end
 abbrev pub flatModified : Modified → CaptionsModifier
 flatModified (One m n) = flatModifier m n
-flatModified NoMore = record { found = false; kind = 0; first = 0; second = 0; third = 0; fourth = 0; from = 0; end = 0; alternativefrom = 0; alternativeend = 0; next = 0 }
+flatModified (NotRead r) = noModifier (r .number) (r .place)
+flatModified NoMore = noModifier 0 0

@@ -5,6 +5,7 @@ use pack::Packed;
 use tx3g_box::Spot;
 use tx3g_modifiers::Held as Modified;
 use tx3g_modifiers::Modifier;
+use tx3g_modifiers::Part;
 use tx3g_sample::Reading;
 use tx3g_style::Styled;
 use unpack::Unpacked;
@@ -32,7 +33,7 @@ ghost use Rattle.tx3g_sample.specs.Sample.{readSample};
 ghost use Rattle.tx3g_style.specs.Style.{styleOf};
 ghost use Rattle.tx3g_box.specs.TextBox.{spotOf};
 ghost use Rattle.tx3g_modifiers.specs.Modifiers.{boxesFrom, nextModifier};
-ghost use Rattle.captions.specs.Flat.{flatVerdict, flatCount, flatStep, flatHeld, msOf, flatPacked, flatUnpacked, flatReading, flatStyled, flatSpot, modifierOf, flatModifier, flatModified};
+ghost use Rattle.captions.specs.Flat.{flatVerdict, flatCount, flatStep, noCue, flatHeld, msOf, flatPacked, flatUnpacked, flatReading, flatStyled, flatSpot, modifierOf, flatModifier, noModifier, flatModified};
 
 #[repr(C)]
 pub struct CaptionsJudgement {
@@ -58,6 +59,8 @@ pub struct CaptionsStep {
 
 #[repr(C)]
 pub struct CaptionsCue {
+    pub number: u32,
+    pub place: usize,
     pub found: bool,
     pub named: bool,
     pub id: u32,
@@ -124,6 +127,8 @@ pub struct CaptionsTextBox {
 // A modifier by the type of its box. What its numbers are, and what stands from `from` on, is said at `captions_next_modifier`.
 #[repr(C)]
 pub struct CaptionsModifier {
+    pub number: u32,
+    pub place: usize,
     pub found: bool,
     pub kind: u32,
     pub first: u32,
@@ -198,11 +203,32 @@ fn flat_step(t: Step) -> CaptionsStep
     }
 }
 
+fn no_cue(number: u32, place: usize) -> CaptionsCue
+    ensures { λ r. ⌜ r ≡ noCue number place ⌝ }
+{
+    CaptionsCue {
+        number,
+        place,
+        found: false,
+        named: false,
+        id: 0,
+        identifierfrom: 0,
+        identifierend: 0,
+        settingsfrom: 0,
+        settingsend: 0,
+        payloadfrom: 0,
+        payloadend: 0,
+        next: 0,
+    }
+}
+
 fn flat_held(h: Held) -> CaptionsCue
     ensures { λ r. ⌜ r ≡ flatHeld h ⌝ }
 {
     match h {
         Held::Cue { parts, next } => CaptionsCue {
+            number: 0,
+            place: 0,
             found: true,
             named: parts.named,
             id: parts.id,
@@ -214,18 +240,8 @@ fn flat_held(h: Held) -> CaptionsCue
             payloadend: parts.payload.end,
             next,
         },
-        Held::End => CaptionsCue {
-            found: false,
-            named: false,
-            id: 0,
-            identifierfrom: 0,
-            identifierend: 0,
-            settingsfrom: 0,
-            settingsend: 0,
-            payloadfrom: 0,
-            payloadend: 0,
-            next: 0,
-        },
+        Held::Refused(why) => no_cue(why.number, why.place),
+        Held::End => no_cue(0, 0),
     }
 }
 
@@ -349,7 +365,7 @@ fn flat_styled(s: Styled) -> CaptionsStyle
     }
 }
 
-// A modifier whose box is of this kind, with its four numbers and two parts.
+// A modifier whose box is of this kind, with its four numbers and a part.
 fn modifier_of(
     kind: u32,
     first: u32,
@@ -363,6 +379,8 @@ fn modifier_of(
     ensures { λ r. ⌜ r ≡ modifierOf kind first second third fourth from end 0 0 next ⌝ }
 {
     CaptionsModifier {
+        number: 0,
+        place: 0,
         found: true,
         kind,
         first,
@@ -373,6 +391,27 @@ fn modifier_of(
         end,
         alternativefrom: 0,
         alternativeend: 0,
+        next,
+    }
+}
+
+// A link, with its range, its URL and its alternative text.
+fn flat_link(start: u32, end: u32, url: Part, alternative: Part, next: usize) -> CaptionsModifier
+    ensures { λ r. ⌜ r ≡ modifierOf 0x68726566 start end 0 0 (url .from) (url .end) (alternative .from) (alternative .end) next ⌝ }
+{
+    CaptionsModifier {
+        number: 0,
+        place: 0,
+        found: true,
+        kind: 0x68726566,
+        first: start,
+        second: end,
+        third: 0,
+        fourth: 0,
+        from: url.from,
+        end: url.end,
+        alternativefrom: alternative.from,
+        alternativeend: alternative.end,
         next,
     }
 }
@@ -406,21 +445,29 @@ fn flat_modifier(m: Modifier, next: usize) -> CaptionsModifier
             end,
             url,
             alternative,
-        } => CaptionsModifier {
-            found: true,
-            kind: 0x68726566,
-            first: start,
-            second: end,
-            third: 0,
-            fourth: 0,
-            from: url.from,
-            end: url.end,
-            alternativefrom: alternative.from,
-            alternativeend: alternative.end,
-            next,
-        },
+        } => flat_link(start, end, url, alternative, next),
         Modifier::TextBox { from } => modifier_of(0x74626F78, 0, 0, 0, 0, from, 0, next),
         Modifier::Wrap { flag } => modifier_of(0x74777270, flag, 0, 0, 0, 0, 0, next),
+    }
+}
+
+fn no_modifier(number: u32, place: usize) -> CaptionsModifier
+    ensures { λ r. ⌜ r ≡ noModifier number place ⌝ }
+{
+    CaptionsModifier {
+        number,
+        place,
+        found: false,
+        kind: 0,
+        first: 0,
+        second: 0,
+        third: 0,
+        fourth: 0,
+        from: 0,
+        end: 0,
+        alternativefrom: 0,
+        alternativeend: 0,
+        next: 0,
     }
 }
 
@@ -429,19 +476,8 @@ fn flat_modified(h: Modified) -> CaptionsModifier
 {
     match h {
         Modified::One { modifier, next } => flat_modifier(modifier, next),
-        Modified::End => CaptionsModifier {
-            found: false,
-            kind: 0,
-            first: 0,
-            second: 0,
-            third: 0,
-            fourth: 0,
-            from: 0,
-            end: 0,
-            alternativefrom: 0,
-            alternativeend: 0,
-            next: 0,
-        },
+        Modified::Refused(why) => no_modifier(why.number, why.place),
+        Modified::End => no_modifier(0, 0),
     }
 }
 
@@ -522,7 +558,7 @@ pub extern "C" fn captions_judge_sample(sample: &[u8]) -> CaptionsJudgement
     flat_verdict(wvtt::judge_sample(sample))
 }
 
-// The first cue from `from` on, where a box begins: 0, or the `next` of the cue before.
+// The first cue from `from` on, where a box begins: 0, or the `next` of the cue before; or the refusal of a header before it or among its boxes.
 #[no_mangle]
 pub extern "C" fn captions_next_cue(sample: &[u8], from: usize) -> CaptionsCue
     ensures { λ r. ⌜ r ≡ flatHeld (nextCue (now (sample .entry)) (boxesIn (now (sample .entry)) from (length (now (sample .entry))))) ⌝ }
@@ -671,7 +707,7 @@ pub extern "C" fn captions_modifiers_from(sample: &[u8]) -> usize
     tx3g_modifiers::skip_text(sample)
 }
 
-// The first modifier from `from` on, where a box begins. By its kind: `styl` count and the styles from `from` on; `hlit`, `blnk` start and end;
+// The first modifier from `from` on, where a box begins, or the refusal of a header before it. By its kind: `styl` count and the styles from `from` on; `hlit`, `blnk` start and end;
 // `hclr` red, green, blue, alpha; `krok` start time, count and the entries; `dlay` time; `href` start, end, URL and alternative text; `tbox` the box; `twrp` the flag.
 #[no_mangle]
 pub extern "C" fn captions_next_modifier(sample: &[u8], from: usize) -> CaptionsModifier

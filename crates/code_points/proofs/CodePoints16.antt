@@ -1,20 +1,23 @@
 -- Valid UTF-16 is the bytes of some characters, and nothing else is.
 use Prim.Native.Nat.{ℕ, _+_, _-_, _*_, _<_, _≤_}
-use mathlib.Core.Path.{_≡_, refl, sym, _∙_, subst}
+use mathlib.Core.Path.{_≡_, refl, sym, ap, _∙_, subst}
+use mathlib.Core.Logic.{inl, inr}
 use mathlib.Core.List.{List, [], _∷_, _++_}
 use mathlib.Core.Bool.{Bool, true, false}
 use native.Mathlib.Omega.{arith}
-use borrow.Author.Tests.{le-leb, lt-leb, ltb-true}
+use borrow.Author.Tests.{le-leb, lt-leb, ltb-true, eqb-true}
 use lib.Arith.{digits-div, digits-mod}
-use lib.Dec.{ltb}
-use lib.ListN.{length}
+use lib.Dec.{ltb, eqb}
+use lib.ListN.{length, drop}
 use Rattle.base.specs.Choice.{both, within}
 use Rattle.base.proofs.Choice.{both-left, both-right, true-false, either, by-test}
-use Rattle.characters.specs.Characters.{isHigh, isLow, sameTest, utf16, firstUnits, mark, countIf, charactersOf}
+use Rattle.characters.specs.declared.Counted.the-variants.{Characters}
+use Rattle.characters.specs.Characters.{firsts, isHigh, isLow, sameTest, utf16, firstUnits, mark, countIf, charactersOf}
+use Rattle.utf8.specs.Utf8.{utf8}
 use Rattle.utf8.specs.Strings.{startsWith}
 use Rattle.utf8.proofs.Ranges.{inside, below, above, in-range}
-use Rattle.code_points.specs.CodePoints.{scalar, scalars, joined, unit, encode16, bytes, Utf16Is, CountIs}
-use Rattle.code_points.proofs.CodePoints.{scalar-low, scalar-high, scalar-cases, digits, First, points, utf8-count}
+use Rattle.code_points.specs.CodePoints.{scalar, scalars, joined, unit, encode16, bytes, Utf16Is, CountIs, CountedIs}
+use Rattle.code_points.proofs.CodePoints.{scalar-low, scalar-high, scalar-cases, digits, First, points, utf8-count, utf8-is}
 
 -- the bytes of a character from the digits of its number
 unit-is : (h l : ℕ) → l < 256 → unit (h * 256 + l) ≡ h ∷ l ∷ []
@@ -171,3 +174,39 @@ utf16-is s b = (λ u. points encode16 valid first (length s) s (omega arith) (va
 pub count-is : CountIs
 unfolding charactersOf mark startsWith countIf
 count-is cs h = let r = encodings-right cs h in (utf8-count cs h, rw (r .0, r .1))
+
+-- a text that begins with the mark
+behind-mark : (s : List ℕ) → startsWith mark s ≡ true → s ≡ mark ++ drop 2 s
+unfolding startsWith mark
+behind-mark [] h = true-false false h refl
+behind-mark (a ∷ []) h = true-false false (both-right (eqb a 0xFE) false h) refl
+behind-mark (a ∷ b ∷ s) h =
+    let p = eqb-true a 0xFE (both-left (eqb a 0xFE) (both (eqb b 0xFF) true) h) in
+    let q = eqb-true b 0xFF (both-left (eqb b 0xFF) true (both-right (eqb a 0xFE) (both (eqb b 0xFF) true) h)) in
+    rw (p, q)
+
+bytes-drop : (s : List ℕ) → bytes s ≡ true → bytes (drop 2 s) ≡ true
+unfolding bytes
+bytes-drop [] h = refl
+bytes-drop (a ∷ []) h = refl
+bytes-drop (a ∷ b ∷ s) h = both-right (ltb b 256) (bytes s) (both-right (ltb a 256) (both (ltb b 256) (bytes s)) h)
+
+counted-if : (t : Bool) (m n : ℕ) → countIf t m ≡ Characters n → t ≡ true
+unfolding countIf
+counted-if true m n e = refl
+counted-if false m n e = let z : _≡_ {A = ℕ} 0 1 = cc in absurd (omega arith)
+
+same-count : (m n : ℕ) → Characters m ≡ Characters n → m ≡ n
+same-count m n e = cc
+
+pub counted-is : CountedIs
+unfolding charactersOf
+counted-is s n b e =
+    by-test (startsWith mark s)
+    (λ t. let u = counted-if (utf16 false (drop 2 s)) (firstUnits (drop 2 s)) n (rw t at e) in
+    let w = utf16-is (drop 2 s) (bytes-drop s b) .0 u in
+    let q : s ≡ mark ++ joined encode16 (w .0) = behind-mark s t ∙ ap (λ (x : List ℕ). mark ++ x) (w .2) in
+    (w .0, w .1, same-count (length (w .0)) n (sym (count-is (w .0) (w .1) .1) ∙ ap charactersOf (sym q) ∙ e), inr q))
+    (λ t. let u = counted-if (utf8 s) (firsts s) n (rw t at e) in
+    let w = utf8-is s .0 u in
+    (w .0, w .1, same-count (length (w .0)) n (sym (count-is (w .0) (w .1) .0) ∙ ap charactersOf (sym (w .2)) ∙ e), inl (w .2)))

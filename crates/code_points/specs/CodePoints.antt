@@ -2,6 +2,7 @@
 -- and proofs/CodePoints16.antt.
 use Prim.Native.Nat.{ℕ, _+_, _-_, _/_, _%_}
 use mathlib.Core.Path.{_≡_}
+use mathlib.Core.Logic.{_⊎_}
 use mathlib.Core.List.{List, [], _∷_, _++_}
 use mathlib.Core.Bool.{Bool, true, false, not}
 use lib.Dec.{leb, ltb}
@@ -63,3 +64,8 @@ Utf16Is = (s : List ℕ) → bytes s ≡ true → (utf16 false s ≡ true → En
 abbrev pub CountIs : Type 0
 CountIs = (cs : List ℕ) → scalars cs ≡ true
     → (charactersOf (joined encode cs) ≡ Characters (length cs)) × (charactersOf (mark ++ joined encode16 cs) ≡ Characters (length cs))
+
+-- and a text whose characters are counted is one of so many characters, in UTF-8 or, behind the mark, in UTF-16: what is neither is bad text
+abbrev pub CountedIs : Type 0
+CountedIs = (s : List ℕ) (n : ℕ) → bytes s ≡ true → charactersOf s ≡ Characters n
+    → (cs : List ℕ) × (scalars cs ≡ true) × (length cs ≡ n) × ((s ≡ joined encode cs) ⊎ (s ≡ mark ++ joined encode16 cs))

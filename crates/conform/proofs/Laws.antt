@@ -24,10 +24,11 @@ use Rattle.records.specs.Records.{count, sourceId, startMs, endMs, identifierOf
 use Rattle.cues.specs.List.{bodyOf, cueOf, cuesOf, Sound}
 use Rattle.wvtt_cues.specs.declared.Parts.{Parts}
 use Rattle.wvtt_cues.specs.declared.Held.{Held}
-use Rattle.wvtt_cues.specs.declared.Held.the-variants.{Cue as HeldCue, End}
+use Rattle.wvtt_cues.specs.declared.Held.the-variants.{Cue as HeldCue}
 use Rattle.boxes.specs.Boxes.{boxesIn}
 use Rattle.wvtt_cues.specs.Cues.{textOf, heldBy, sampleCues, nextCue}
-use Rattle.wvtt_cues.proofs.Walk.{heldFrom, Next, next-means}
+use Rattle.wvtt_cues.specs.Walk.{heldFrom, Next}
+use Rattle.wvtt_cues.proofs.Walk.{next-means}
 use Rattle.verdict.specs.declared.Verdict.the-variants.{Fine}
 use Rattle.track.specs.Track.{rowCount, durationOf, sizeOf, offsetOf, bytesOf, sampleOf, trackOf, judgeTrack}
 use Rattle.track.proofs.Laws.{offset-suc, offset-most, fine-readable}
@@ -125,9 +126,6 @@ module _ (scale : ℕ) (recs pool : List ℕ) (i b e : ℕ) where
 -- the answer of `next_cue`
 pub next-one : (s : List ℕ) (at : ℕ) (r : Held) (c : Parts) (n : ℕ) → r ≡ nextCue s (boxesIn s at (length s)) → r ≡ HeldCue c n → Next s at c n
 next-one s at r c n e q = next-means s at (HeldCue c n) (sym q ∙ e)
-
-pub next-none : (s : List ℕ) (at : ℕ) (r : Held) → r ≡ nextCue s (boxesIn s at (length s)) → r ≡ End → heldFrom s at ≡ []
-next-none s at r e q = next-means s at End (sym q ∙ e)
 
 pub left-some : (s : List ℕ) (at : ℕ) (c : Parts) (n : ℕ) → Next s at c n → false ≡ noneLeft (heldFrom s at)
 left-some s at c n w = rw (w .held)

@@ -1,4 +1,4 @@
--- Terms of the contracts: the records that a sample is held against, and what a record finds in a sample.
+-- Terms of the contracts of private functions: the records that a sample is held against, and what a record finds in a sample.
 use Prim.Native.Nat.{ℕ, _≤_, _<_}
 use mathlib.Core.Path.{_≡_}
 use mathlib.Core.Bool.{Bool, false}
@@ -8,7 +8,7 @@ use Rattle.times.specs.Times.{tick}
 use Rattle.timeline.specs.Cues.{Body}
 use Rattle.timeline.specs.Checking.{Stand as Standing, out, whole, part, meets}
 use Rattle.records.specs.Records.{count, startMs, endMs, textsEnd}
-use Rattle.wvtt_cues.proofs.Walk.{heldFrom}
+use Rattle.wvtt_cues.specs.Walk.{heldFrom}
 use Rattle.conform.specs.declared.Stretch.{Stretch}
 use Rattle.conform.specs.declared.Window.{Window}
 use Rattle.conform.specs.declared.Stand.{Stand}

@@ -32,7 +32,7 @@ ghost use Rattle.timeline.specs.Checking.{standing, noneLeft, whole, matches, c
 ghost use Rattle.records.specs.Records.{count, startMs, endMs, textsEnd, piece, identifierOf, settingsOf, payloadOf};
 ghost use Rattle.cues.specs.List.{bodyOf, cueOf, cuesOf, Sound};
 ghost use Rattle.wvtt_cues.specs.Cues.{textOf, heldBy, sampleCues};
-ghost use Rattle.wvtt_cues.proofs.Walk.{Within, Inside, heldFrom};
+ghost use Rattle.wvtt_cues.specs.Walk.{Within, Inside, heldFrom};
 ghost use Rattle.track.specs.Track.{trackOf, judgeTrack};
 ghost use Rattle.conform.specs.Window.{Ended, Started, Later, Rises, Pooled, Reached, Around, standOf, Finds};
 ghost use Rattle.conform.specs.Conformance.{answered, conformance};
@@ -193,10 +193,12 @@ fn match_record(
 fn none_left(s: &[u8], at: usize) -> bool
     ensures { λ r. ⌜ r ≡ noneLeft (heldFrom (now (s .entry)) at) ⌝ }
 {
-    let Held::End = next_cue(s, at) else {
-        return false;
-    };
-    true
+    match next_cue(s, at) {
+        Held::Cue { parts: _, next: _ } => false,
+        // a track without fault has no refusal here
+        Held::Refused(_) => true,
+        Held::End => true,
+    }
 }
 
 // A sample holds what it should over its stretch.

@@ -1,7 +1,7 @@
 -- The judgement finds no fault exactly in the sound lists, and the cues of a sound list are proper.
 use Prim.Native.Nat.{ℕ, zero, suc, _+_, _-_, _%_, _<_, _≤_}
 use mathlib.Core.Path.{_≡_, refl, sym, ap, _∙_}
-use mathlib.Core.Logic.{_≢_, _↔_}
+use mathlib.Core.Logic.{_≢_}
 use mathlib.Core.Bool.{Bool, true, false, not}
 use mathlib.Core.Option.{Option, none, some}
 use mathlib.Core.List.{List}
@@ -24,7 +24,7 @@ use Rattle.timeline.specs.Cues.{Cue, Proper, Named}
 use Rattle.timeline.proofs.Listing.{length-listed, mem-listed, listed-pairs}
 use Rattle.records.specs.Records.{count, sourceId, startMs, endMs, identifierLength, settingsLength, payloadLength, reserved, textsEnd, identifierOf, settingsOf, payloadOf}
 use Rattle.cues.specs.Judgement.{badValue, tooLong, pastPool, badText, badTime, startFalls, judgeRecord, found, stoodEarlier, twiceAt, judgeIds, judgeList}
-use Rattle.cues.specs.List.{bodyOf, cueOf, cuesOf, SoundRecord, Sound}
+use Rattle.cues.specs.List.{bodyOf, cueOf, cuesOf, SoundRecord, Sound, FineIff, SoundProper}
 
 -- a test that gives no fault
 no-fault : (b : Bool) (n p : ℕ) → b gives n at p ≡ Fine → b ≡ false
@@ -162,9 +162,6 @@ module _ (scale T : ℕ) (recs pool : List ℕ) where
         distinct-ids recs (count recs) (s .distinct),
       )
 
-  pub fine-iff : (judgeList scale T recs pool ≡ Fine) ↔ Sound scale T recs pool
-  fine-iff = (fine-sound, sound-fine)
-
   -- starts never fall, over any distance
   pub starts : Sound scale T recs pool → (d i : ℕ) → i + d < count recs → startMs recs i ≤ startMs recs (i + d)
   starts s zero i l = let e : i + 0 ≡ i = omega arith in rw e (le-refl (startMs recs i))
@@ -173,26 +170,29 @@ module _ (scale T : ℕ) (recs pool : List ℕ) where
       let one = s .records (i + suc d) l .follows (i + d) e in
       omega (arith, starts s d i (omega arith))
 
-  -- the cues of a sound list are a proper list for the ticks of T
-  pub sound-proper : Sound scale T recs pool → Proper (cuesOf scale recs pool) (tick scale T)
-  unfolding cuesOf cueOf bodyOf
-  sound-proper s = record {
-    lasts = λ c m. let w = mem-listed (cueOf scale recs pool) (count recs) c m in
-        omega (arith, ap (λ (x : Cue). x .start) (w .2), ap (λ (x : Cue). x .end) (w .2), s .records (w .0) (w .1) .ticks);
-    ends = λ c m. let w = mem-listed (cueOf scale recs pool) (count recs) c m in
-        omega (arith, ap (λ (x : Cue). x .end) (w .2), tick-mono scale (endMs recs (w .0)) T (s .records (w .0) (w .1) .ends));
-    ordered = listed-pairs (λ c d. c .start ≤ d .start) (cueOf scale recs pool) (count recs)
-        (λ i j a b. tick-mono scale (startMs recs i) (startMs recs j) (before i j a b));
-    distinct = listed-pairs (λ c d. d .body .id ≢ c .body .id) (cueOf scale recs pool) (count recs)
-        (λ i j a b e. s .distinct i j a b (sym (same e)));
-  }
-    where
-      before : (i j : ℕ) → i < j → j < count recs → startMs recs i ≤ startMs recs j
-      before i j a b = let e : j ≡ i + (j - i) = omega arith in rw e (starts s (j - i) i (omega arith))
+pub fine-iff : FineIff
+fine-iff scale T recs pool = (fine-sound scale T recs pool, sound-fine scale T recs pool)
 
-      same : {x y : ℕ} → _≡_ {A = Option ℕ} (some x) (some y) → x ≡ y
-      same q = cc
+pub sound-proper : SoundProper
+unfolding cuesOf cueOf bodyOf
+sound-proper scale T recs pool s = record {
+  lasts = λ c m. let w = mem-listed (cueOf scale recs pool) (count recs) c m in
+      omega (arith, ap (λ (x : Cue). x .start) (w .2), ap (λ (x : Cue). x .end) (w .2), s .records (w .0) (w .1) .ticks);
+  ends = λ c m. let w = mem-listed (cueOf scale recs pool) (count recs) c m in
+      omega (arith, ap (λ (x : Cue). x .end) (w .2), tick-mono scale (endMs recs (w .0)) T (s .records (w .0) (w .1) .ends));
+  ordered = listed-pairs (λ c d. c .start ≤ d .start) (cueOf scale recs pool) (count recs)
+      (λ i j a b. tick-mono scale (startMs recs i) (startMs recs j) (before i j a b));
+  distinct = listed-pairs (λ c d. d .body .id ≢ c .body .id) (cueOf scale recs pool) (count recs)
+      (λ i j a b e. s .distinct i j a b (sym (same e)));
+}
+  where
+    before : (i j : ℕ) → i < j → j < count recs → startMs recs i ≤ startMs recs j
+    before i j a b = let e : j ≡ i + (j - i) = omega arith in rw e (starts scale T recs pool s (j - i) i (omega arith))
 
+    same : {x y : ℕ} → _≡_ {A = Option ℕ} (some x) (some y) → x ≡ y
+    same q = cc
+
+module _ (scale T : ℕ) (recs pool : List ℕ) where
   pub cues-named : Named (cuesOf scale recs pool)
   unfolding cuesOf cueOf bodyOf
   cues-named c m = let w = mem-listed (cueOf scale recs pool) (count recs) c m in (sourceId recs (w .0), ap (λ (x : Cue). x .body .id) (w .2))
@@ -203,7 +203,7 @@ module _ (scale T : ℕ) (recs pool : List ℕ) where
 
   -- a list in which no fault is found stands for at most 1,024 cues, proper for the ticks of T
   pub fine-proper : judgeList scale T recs pool ≡ Fine → Proper (cuesOf scale recs pool) (tick scale T)
-  fine-proper e = sound-proper (fine-sound e)
+  fine-proper e = sound-proper scale T recs pool (fine-sound scale T recs pool e)
 
   pub fine-few : judgeList scale T recs pool ≡ Fine → length (cuesOf scale recs pool) ≤ 1024
-  fine-few e = omega (arith, length-cues, fine-sound e .few)
+  fine-few e = omega (arith, length-cues, fine-sound scale T recs pool e .few)

@@ -14,7 +14,8 @@ use Rattle.base.specs.Choice.{pick}
 use Rattle.base.proofs.Choice.{either, by-test}
 use Rattle.timeline.specs.Packing.{sorted}
 use Rattle.timeline.proofs.Sorting.{sorted-sorts, no-longer}
-use Rattle.timeline.proofs.Nearest.{nearest, nearest-top, nearest-append}
+use Rattle.timeline.specs.Nearest.{nearest}
+use Rattle.timeline.proofs.Nearest.{nearest-top, nearest-append}
 use Rattle.timeline.proofs.Indexed.{mem-index, rising-index, cut-next, cut-more}
 use Rattle.cuts.specs.Cuts.{startTick, endTick, ticksTo, cutsOf, runsAt, recordSize, cuesSize, orEmpty, bytesTo, Lasting, Timed, CutAt}
 use Rattle.cuts.specs.Window.{Ended, Started, Later, Window, From}

@@ -1,4 +1,4 @@
--- The cuts of records, and the bytes of the samples between them.
+-- Terms of the contracts of functions that only packing calls: the cuts of records, and the bytes of the samples between them.
 use Prim.Native.Nat.{ℕ, zero, suc, _+_, _*_, _≤_, _<_}
 use mathlib.Core.Path.{_≡_}
 use mathlib.Core.Bool.{Bool}

@@ -1,8 +1,8 @@
--- The window of records that can run at a begin, and what is found by it.
+-- Terms of the contracts of private functions and of the search that packing calls: the window of records that can run at a begin, and what is found by it.
 use Prim.Native.Nat.{ℕ, _≤_, _<_}
 use mathlib.Core.Path.{_≡_}
 use mathlib.Core.List.{List}
-use Rattle.timeline.proofs.Nearest.{nearest}
+use Rattle.timeline.specs.Nearest.{nearest}
 use Rattle.cuts.specs.Cuts.{startTick, endTick, ticksTo, cuesSize}
 use Rattle.cuts.specs.declared.Stretch.{Stretch}
 

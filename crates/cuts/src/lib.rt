@@ -11,7 +11,7 @@ ghost use Prim.Native.Nat.{suc, min, _+_, _*_, _≤_, _<_};
 ghost use lib.ListN.{length};
 ghost use lib.Dec.{ltb};
 ghost use Rattle.base.specs.Choice.{pick};
-ghost use Rattle.timeline.proofs.Nearest.{nearest};
+ghost use Rattle.timeline.specs.Nearest.{nearest};
 ghost use Rattle.cuts.specs.Cuts.{startTick, endTick, ticksTo, cutsOf, recordSize, cuesSize, orEmpty, bytesTo, Lasting, Timed};
 ghost use Rattle.cuts.specs.Window.{Ended, Started, Window, From};
 

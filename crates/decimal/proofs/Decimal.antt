@@ -9,7 +9,7 @@ use lib.Dec.{ltb}
 use lib.ListN.{length, length-append}
 use borrow.Author.Tests.{lt-ltb, le-ltb}
 use Rattle.base.proofs.Choice.{by-test}
-use Rattle.decimal.specs.Decimal.{lastBehind, digits, decimal, valueFrom, value}
+use Rattle.decimal.specs.Decimal.{lastBehind, digits, decimal, valueFrom, value, ValueDecimal}
 
 digits-enough : (f n : ℕ) → n < 10 ^ suc f → digits (suc (suc f)) n ≡ digits (suc f) n
 unfolding digits
@@ -33,7 +33,7 @@ decimal-more n h k = decimal-is n k ∙ ap (λ (b : Bool). lastBehind b n (λ _.
 pub value-append : (v : ℕ) (a b : List ℕ) → valueFrom v (a ++ b) ≡ valueFrom (valueFrom v a) b
 unfolding valueFrom
 value-append v [] b = refl
-value-append v (d ∷ a) b = value-append (v * 10 + (d - 48)) a b
+value-append v (d ∷ a) b = value-append _ a b
 
 digits-value : (f n : ℕ) → n < 10 ^ f → valueFrom 0 (digits f n) ≡ n
 unfolding digits valueFrom
@@ -44,8 +44,7 @@ digits-value (suc f) n h =
     by-test (ltb n 10) (λ e. rw e (omega arith))
     (λ e. rw (e, value-append 0 (digits f (n / 10)) ((48 + n % 10) ∷ []), r) (omega arith))
 
--- the digits of a number are its own
-pub value-decimal : (n : ℕ) → n < 10 ^ 20 → value (decimal n) ≡ n
+pub value-decimal : ValueDecimal
 unfolding value decimal
 value-decimal n h = digits-value 20 n h
 

@@ -1,5 +1,6 @@
 -- Decimal numbers: the digits of a number, and the number of digits.
-use Prim.Native.Nat.{ℕ, zero, suc, _+_, _-_, _*_, _/_, _%_}
+use Prim.Native.Nat.{ℕ, zero, suc, _+_, _-_, _*_, _/_, _%_, _^_, _<_}
+use mathlib.Core.Path.{_≡_}
 use mathlib.Core.Bool.{Bool, true, false}
 use mathlib.Core.List.{List, [], _∷_, _++_}
 use lib.Dec.{ltb}
@@ -28,3 +29,7 @@ valueFrom v (d ∷ ds) = valueFrom (v * 10 + (d - 48)) ds
 unfoldable pub value : List ℕ → ℕ
 unfolding valueFrom
 value ds = valueFrom 0 ds
+
+-- the digits of a number, read again, give it back; proved in proofs/Decimal.antt
+abbrev pub ValueDecimal : Type 0
+ValueDecimal = (n : ℕ) → n < 10 ^ 20 → value (decimal n) ≡ n

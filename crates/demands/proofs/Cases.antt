@@ -15,12 +15,13 @@ use Rattle.timeline.specs.Cues.{runs, chosen, runningAt, sameId, sameBody}
 use Rattle.timeline.specs.Lists.{listed}
 use Rattle.timeline.specs.Packing.{edges, marks, insert, sorted, stretches, heldOver, packed}
 use Rattle.timeline.specs.Tracks.{blank, copy, total, beginOf, endOf, heldOf, heldFrom, heldAt}
-use Rattle.timeline.specs.Unpacking.{noCue, fresh, till, indexOf, again, takeBody, takeAll, unpackFrom, unpack}
+use Rattle.timeline.specs.Unpacking.{noCue, fresh, till, indexOf, hasId, hasNewer, goesOn, readBody, readAll, readFrom, unpack}
 use Rattle.boxes.specs.Boxes.{stepAt, boxesF, boxesIn, passed, times, among, judged, part}
 use Rattle.boxes.specs.Written.{boxBytes, itemBytes, laid}
 use Rattle.wvtt.specs.Kinds.{line, single}
 use Rattle.wvtt.specs.Sample.{judgeId, judgeText, judgeBody, inCue, judgeCue, inSample, judgeSample}
-use Rattle.wvtt_cues.specs.Cues.{nowhere, placed, bodyOf, placesOf, withId, partsOf, textOf, heldBy, cuesIn, sampleCues, nextCue}
+use Rattle.wvtt_cues.specs.Cues.{nowhere, placed, bodyOf, withId, partsOf, textOf, heldBy, cuesIn, sampleCues, nextCue}
+use Rattle.wvtt_cues.specs.Terms.{placesOf}
 use Rattle.wvtt_write.specs.Written.{textItems, cueItems, cueBytes, cuesBytes, sampleBytes, pooled, textsSize, cueSize}
 use Rattle.cues.specs.List.{bodyOf as bodyOf-List, cueOf, cuesOf}
 use Rattle.records.specs.Records.{count, sourceId, startMs, endMs, textOffset, identifierLength, settingsLength, payloadLength, reserved, settingsOffset, payloadOffset, textsEnd, piece, identifierOf, settingsOf, payloadOf}
@@ -31,9 +32,10 @@ use Rattle.unpack_write.specs.Records.{recordBytes, recordOf, textsOf, poolTo, 
 use Rattle.unpack.specs.Unpacking.{trackCues, trackMs, badTimes, judgeTimes, judgeEnd, judgeUnpack, doneWith, unpackOf}
 use Rattle.decimal.specs.Decimal.{digits, decimal, valueFrom, value}
 use Rattle.listing.specs.Listing.{numberText, pairText, rowText, rowsText, word, refusalText}
+use Rattle.input.specs.Line.{isDigit, top, before, behind, allDigits, written, lineOf}
 use Rattle.report.specs.Report.{listText, usable, answerText}
-use Rattle.demands.specs.Cases.{rowBytes as rowBytes-here, rowsBytes, rowsPool, askHolds, askWritten, askBack, asked, cases, CasesHold}
+use Rattle.demands.specs.Cases.{rowBytes as rowBytes-here, rowsBytes, rowsPool, heldBy as heldBy-here, timesOf, askPacking, askUnpacking, asked, cases, CasesHold}
 
 pub cases-hold : CasesHold
-unfolding within sameList firstFrom first over wrote fault each be bytes isTail firsts isHigh isLow utf16 firstUnits countIf mark charactersOf notInLine notInPayload identifierText payloadText labelText webvtt configurationText startsWith startsWithAny hasAny endsIn beginsLine endsLine rows followIn follow judge utf8 classOf classTable tick quotientUp back scaleAllowed timelineAllowed runs chosen runningAt sameId sameBody listed edges marks insert sorted stretches heldOver packed blank copy total beginOf endOf heldOf heldFrom heldAt noCue fresh till indexOf again takeBody takeAll unpackFrom unpack stepAt boxesF boxesIn passed times among judged part boxBytes itemBytes laid line single judgeId judgeText judgeBody inCue judgeCue inSample judgeSample nowhere placed bodyOf placesOf withId partsOf textOf heldBy cuesIn sampleCues nextCue textItems cueItems cueBytes cuesBytes sampleBytes pooled textsSize cueSize bodyOf-List cueOf cuesOf count sourceId startMs endMs textOffset identifierLength settingsLength payloadLength reserved settingsOffset payloadOffset textsEnd piece identifierOf settingsOf payloadOf badValue tooLong pastPool badText badTime startFalls judgeRecord stoodEarlier judgeIds judgeList rowCount durationOf sizeOf offsetOf bytesOf judgeRow judgeTrack sampleOf trackOf packedTrack rowBytes tableBytes samplesBytes roomed packedOf recordBytes recordOf textsOf poolTo recordsTo poolOf recordsOf trackCues trackMs badTimes judgeTimes judgeEnd judgeUnpack doneWith unpackOf digits decimal valueFrom value numberText pairText rowText rowsText word refusalText listText usable answerText rowBytes-here rowsBytes rowsPool askHolds askWritten askBack asked cases
+unfolding within sameList firstFrom first over wrote fault each be bytes isTail firsts isHigh isLow utf16 firstUnits countIf mark charactersOf notInLine notInPayload identifierText payloadText labelText webvtt configurationText startsWith startsWithAny hasAny endsIn beginsLine endsLine rows followIn follow judge utf8 classOf classTable tick quotientUp back scaleAllowed timelineAllowed runs chosen runningAt sameId sameBody listed edges marks insert sorted stretches heldOver packed blank copy total beginOf endOf heldOf heldFrom heldAt noCue fresh till indexOf hasId hasNewer goesOn readBody readAll readFrom unpack stepAt boxesF boxesIn passed times among judged part boxBytes itemBytes laid line single judgeId judgeText judgeBody inCue judgeCue inSample judgeSample nowhere placed bodyOf placesOf withId partsOf textOf heldBy cuesIn sampleCues nextCue textItems cueItems cueBytes cuesBytes sampleBytes pooled textsSize cueSize bodyOf-List cueOf cuesOf count sourceId startMs endMs textOffset identifierLength settingsLength payloadLength reserved settingsOffset payloadOffset textsEnd piece identifierOf settingsOf payloadOf badValue tooLong pastPool badText badTime startFalls judgeRecord stoodEarlier judgeIds judgeList rowCount durationOf sizeOf offsetOf bytesOf judgeRow judgeTrack sampleOf trackOf packedTrack rowBytes tableBytes samplesBytes roomed packedOf recordBytes recordOf textsOf poolTo recordsTo poolOf recordsOf trackCues trackMs badTimes judgeTimes judgeEnd judgeUnpack doneWith unpackOf digits decimal valueFrom value isDigit top before behind allDigits written lineOf numberText pairText rowText rowsText word refusalText listText usable answerText rowBytes-here rowsBytes rowsPool heldBy-here timesOf askPacking askUnpacking asked cases
 cases-hold = refl

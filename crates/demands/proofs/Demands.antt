@@ -1,129 +1,181 @@
 -- Proofs of the demands from the laws of the crates below.
-use Prim.Native.Nat.{ℕ, _/_, _<_, _≤_}
-use mathlib.Core.Path.{_≡_, refl, sym, ap, _∙_, subst}
+use Prim.Native.Nat.{ℕ, zero, suc, _+_, _/_, _<_, _≤_}
+use mathlib.Core.Path.{_≡_, refl, sym, ap, ap₂, _∙_, subst}
 use mathlib.Core.List.{List}
+use mathlib.Core.Option.{some}
 use native.Mathlib.Omega.{arith}
-use lib.ListN.{length}
+use lib.ListN.{length, take, drop, getD}
+use Rattle.base.specs.Over.{over}
+use Rattle.base.proofs.Over.{take-over, drop-over}
+use Rattle.verdict.specs.declared.Verdict.{Verdict}
 use Rattle.verdict.specs.declared.Verdict.the-variants.{Fine}
-use Rattle.times.specs.Times.{tick}
+use Rattle.verdict.proofs.Judgement.{both-fine}
+use Rattle.times.specs.Times.{tick, back}
+use Rattle.timeline.specs.Cues.{Cue}
 use Rattle.timeline.specs.Tracks.{Sample, Right}
+use Rattle.timeline.specs.Packing.{packed}
+use Rattle.timeline.specs.Checking.{accepted, wrong, short, Bad, Good}
+use Rattle.timeline.specs.Unpacking.{noCue, ListOf, unpack, done}
+use Rattle.timeline.proofs.Answers.{good-not-bad, not-bad-good}
 use Rattle.timeline.proofs.Packed.{honest-right}
 use Rattle.timeline.proofs.Fewest.{fewest}
-use Rattle.timeline.proofs.Listing.{length-listed, mem-listed, listed-mem}
+use Rattle.timeline.proofs.Complete.{unpacks-iff}
 use Rattle.records.specs.Records.{count}
 use Rattle.cues.specs.Judgement.{judgeList}
 use Rattle.cues.specs.List.{cuesOf}
 use Rattle.cues.proofs.Sound.{fine-proper}
-use Rattle.track.specs.Track.{rowCount, durationOf, sampleOf, trackOf, Readable}
+use Rattle.track.specs.Track.{rowCount, durationOf, sampleOf, trackOf, judgeTrack, Readable}
+use Rattle.track.proofs.Laws.{fine-readable, readable-fine}
+use Rattle.track.proofs.Samples.{length-track, rows-positive, positive-rows, track-positive}
+use Rattle.pack.specs.declared.Packed.{Packed}
+use Rattle.pack.specs.declared.Packed.the-variants.{Done}
 use Rattle.pack.specs.Packing.{packedTrack, tableBytes, samplesBytes}
+use Rattle.pack.proofs.Answers.{packs, done-means}
 use Rattle.pack.proofs.Track.{packed-is-right, samples-most, reads-back, packed-readable, packed-fine}
-use Rattle.conform.specs.Conformance.{conformance, Conforms, AcceptsExactly, DiffersExactly}
-use Rattle.conform.proofs.Exactly.{accepts-exactly, differs-exactly}
-use Rattle.unpack_write.specs.Records.{recordsOf, poolOf}
-use Rattle.unpack.specs.declared.Unpacked.{Unpacked}
-use Rattle.unpack.specs.declared.Unpacked.the-variants.{Done}
-use Rattle.unpack.specs.Unpacking.{unpackOf, trackCues}
-use Rattle.unpack_laws.proofs.Theorems.{success, unpacked-fine, check-accepts, comes-back, same-record, same-length}
-use Rattle.demands.specs.Packing.{Packs, PackingIs}
-use Rattle.demands.specs.Unpacking.{SameCues, ComesBack, UnpackedIsFine, UnpackedPasses}
-use Rattle.demands.specs.Checking.{HonestPasses, OwnPasses, FewestSamples}
+use Rattle.conform.specs.Conformance.{conformance}
+use Rattle.conform.proofs.Exactly.{answers-exactly}
+use Rattle.demands.specs.Calls.{PackCall, CheckCall}
+use Rattle.demands.specs.Packing.{Written, PackingWrites, RefusedPackingKeeps, PackingIsDone}
+use Rattle.demands.specs.Checking.{Conforms, AcceptsExactly, DiffersExactly, EndsEarlyExactly, HonestPasses, OwnPasses, FewestSamples}
 
-length-track : (table samples : List ℕ) → length (trackOf table samples) ≡ rowCount table
-unfolding trackOf
-length-track table samples = length-listed (sampleOf table samples) (rowCount table)
+-- ---- demand 2: packing
 
--- demand 2
-pub packing-is : PackingIs
+-- what a call that is done has written
+module _ (scale T : ℕ) (records pool table samples tableAfter samplesAfter : List ℕ) (n t b : ℕ) (c : PackCall scale T records pool table samples tableAfter samplesAfter (Done n t b)) where
+  pub fine : judgeList scale T records pool ≡ Fine
+  fine = done-means scale T records pool (length table) (length samples) n t b (sym (c .answers)) .fine
+
+  pub table-is : take t tableAfter ≡ tableBytes (packedTrack scale T records pool)
+  table-is =
+      ap (take t) (c .table-holds)
+      ∙ take-over (tableBytes (packedTrack scale T records pool)) table t (done-means scale T records pool (length table) (length samples) n t b (sym (c .answers)) .table-is)
+
+  pub samples-are : take b samplesAfter ≡ samplesBytes (packedTrack scale T records pool)
+  samples-are =
+      ap (take b) (c .samples-hold)
+      ∙ take-over (samplesBytes (packedTrack scale T records pool)) samples b (done-means scale T records pool (length table) (length samples) n t b (sym (c .answers)) .bytes-are)
+
+  pub track-is : trackOf (take t tableAfter) (take b samplesAfter) ≡ packed (cuesOf scale records pool) (tick scale T)
+  track-is = ap₂ trackOf table-is samples-are ∙ reads-back scale T records pool fine
+
+  pub track-readable : Readable (take t tableAfter) (take b samplesAfter)
+  track-readable =
+      subst (λ (x : List ℕ). Readable x (take b samplesAfter)) (sym table-is)
+      (subst (Readable (tableBytes (packedTrack scale T records pool))) (sym samples-are) (packed-readable scale T records pool fine))
+
+  pub track-right : Right (cuesOf scale records pool) (tick scale T) (trackOf (take t tableAfter) (take b samplesAfter))
+  unfolding packedTrack
+  track-right = subst (Right (cuesOf scale records pool) (tick scale T)) (sym track-is) (packed-is-right scale T records pool fine)
+
+  pub count-is : n ≡ length (packedTrack scale T records pool)
+  count-is = done-means scale T records pool (length table) (length samples) n t b (sym (c .answers)) .samples-are
+
+  pub rows-are : n ≡ rowCount (take t tableAfter)
+  unfolding packedTrack
+  rows-are = omega (arith, count-is, ap length track-is, length-track (take t tableAfter) (take b samplesAfter))
+
+  written : Written scale T records pool (take t tableAfter) (take b samplesAfter) n t b
+  unfolding packedTrack
+  written =
+      let w = done-means scale T records pool (length table) (length samples) n t b (sym (c .answers)) in
+      record {
+        fine = fine;
+        table-is = table-is;
+        samples-are = samples-are;
+        table-bytes = ap length table-is ∙ sym (w .table-is);
+        samples-bytes = ap length samples-are ∙ sym (w .bytes-are);
+        readable = track-readable;
+        read = track-is;
+        right = track-right;
+        counted = rows-are;
+        few = omega (arith, count-is, samples-most scale T records pool fine);
+      }
+
+  kept : (drop t tableAfter ≡ drop t table) × (drop b samplesAfter ≡ drop b samples)
+  kept =
+      let w = done-means scale T records pool (length table) (length samples) n t b (sym (c .answers)) in (
+        ap (drop t) (c .table-holds) ∙ drop-over (tableBytes (packedTrack scale T records pool)) table t (w .table-is),
+        ap (drop b) (c .samples-hold) ∙ drop-over (samplesBytes (packedTrack scale T records pool)) samples b (w .bytes-are),
+      )
+
+pub packing-writes : PackingWrites
+packing-writes scale T records pool table samples tableAfter samplesAfter n t b c =
+    let k = kept scale T records pool table samples tableAfter samplesAfter n t b c in
+    (written scale T records pool table samples tableAfter samplesAfter n t b c, k .0, k .1)
+
+pub refused-packing-keeps : RefusedPackingKeeps
+refused-packing-keeps scale T records pool table samples tableAfter samplesAfter r c = (c .table-holds, c .samples-hold)
+
+pub packing-is-done : PackingIsDone
 unfolding packedTrack
-packing-is scale T records pool fine =
-    record {
-      readable = packed-readable scale T records pool fine;
-      read = reads-back scale T records pool fine;
-      right = packed-is-right scale T records pool fine;
-      few = samples-most scale T records pool fine;
-    }
+packing-is-done scale T records pool table samples tableAfter samplesAfter answer c fine h k = c .answers ∙ packs scale T records pool (length table) (length samples) fine h k
 
--- demand 3: a track that is right conforms
+-- ---- demand 3: the check
+
 right-conforms : (scale T : ℕ) (records pool table samples : List ℕ) → Readable table samples → Right (cuesOf scale records pool) (tick scale T) (trackOf table samples)
     → Conforms scale T records pool table samples
-unfolding trackOf sampleOf
 right-conforms scale T records pool table samples r w =
-    record { readable = r; positive = λ i l. w .positive (sampleOf table samples i) (listed-mem (sampleOf table samples) (rowCount table) i l); sums = w .sums; holds = w .holds }
-
-lasting : (table samples : List ℕ) (x : Sample) (i : ℕ) → x ≡ sampleOf table samples i → 0 < durationOf table i → 0 < x .duration
-unfolding sampleOf
-lasting table samples x i e h = rw e h
+    record { readable = r; positive = positive-rows table samples (w .positive); sums = w .sums; holds = w .holds }
 
 conforms-right : (scale T : ℕ) (records pool table samples : List ℕ) → Conforms scale T records pool table samples → Right (cuesOf scale records pool) (tick scale T) (trackOf table samples)
-unfolding trackOf
-conforms-right scale T records pool table samples w =
-    record {
-      positive = λ x m. let v = mem-listed (sampleOf table samples) (rowCount table) x m in lasting table samples x (v .0) (v .2) (w .positive (v .0) (v .1));
-      sums = w .sums;
-      holds = w .holds;
-    }
+conforms-right scale T records pool table samples w = record { positive = rows-positive table samples (w .positive); sums = w .sums; holds = w .holds }
+
+-- what is accepted was read
+accepted-reads : (scale T : ℕ) (records pool table samples : List ℕ) → conformance scale T records pool table samples ≡ Fine → judgeTrack table samples ≡ Fine
+unfolding conformance
+accepted-reads scale T records pool table samples e = both-fine (judgeTrack table samples) _ (both-fine (judgeList scale T records pool) _ e .1) .0
+
+accepted-list : (scale T : ℕ) (records pool table samples : List ℕ) → conformance scale T records pool table samples ≡ Fine → judgeList scale T records pool ≡ Fine
+unfolding conformance
+accepted-list scale T records pool table samples e = both-fine (judgeList scale T records pool) _ e .0
+
+pub accepts-exactly : AcceptsExactly
+accepts-exactly scale T records pool table samples answer c = (
+  (λ e. let q = sym (c .answers) ∙ e in
+      let fine = accepted-list scale T records pool table samples q in
+      let reads = accepted-reads scale T records pool table samples q in
+      (fine, right-conforms scale T records pool table samples (fine-readable table samples reads .0) (answers-exactly scale T records pool table samples fine reads accepted tt .0 q))),
+  λ w. let v = w .1 in
+      c .answers ∙ answers-exactly scale T records pool table samples (w .0) (readable-fine table samples (v .readable) (v .positive)) accepted tt .1 (conforms-right scale T records pool table samples v),
+)
+
+pub differs-exactly : DiffersExactly
+differs-exactly scale T records pool table samples answer c fine reads i l =
+    let m = answers-exactly scale T records pool table samples fine reads (wrong i) l in
+    let n = length-track table samples in (
+      (λ e. let w = m .0 (sym (c .answers) ∙ e) in (w .1, λ j k. good-not-bad _ _ _ j (w .2 j k))),
+      λ w. c .answers ∙ m .1 (omega arith, w .0, λ j k. not-bad-good (cuesOf scale records pool) (tick scale T) (trackOf table samples) j (w .1 j k)),
+    )
+
+pub ends-early-exactly : EndsEarlyExactly
+ends-early-exactly scale T records pool table samples answer c fine reads =
+    let m = answers-exactly scale T records pool table samples fine reads (short (rowCount table)) refl in
+    let n = length-track table samples in (
+      (λ e. let w = m .0 (sym (c .answers) ∙ e) in ((λ j l. w .1 j (omega arith)), w .2)),
+      λ w. c .answers ∙ m .1 (sym n, (λ j l. w .0 j (omega arith)), w .1),
+    )
 
 pub honest-passes : HonestPasses
-honest-passes scale T records pool table samples fine r h =
-    accepts-exactly scale T records pool table samples fine .1
-    (right-conforms scale T records pool table samples r (honest-right (cuesOf scale records pool) (tick scale T) (trackOf table samples) (fine-proper scale T records pool fine) h))
+honest-passes scale T records pool table samples answer c fine r h =
+    accepts-exactly scale T records pool table samples answer c .1
+    (fine, right-conforms scale T records pool table samples r (honest-right (cuesOf scale records pool) (tick scale T) (trackOf table samples) (fine-proper scale T records pool fine) h))
 
 pub own-passes : OwnPasses
-own-passes scale T records pool fine =
-    let w = packing-is scale T records pool fine in
-    let t = tableBytes (packedTrack scale T records pool) in
-    let s = samplesBytes (packedTrack scale T records pool) in
-    accepts-exactly scale T records pool t s fine .1
-    (right-conforms scale T records pool t s (w .readable) (subst (Right (cuesOf scale records pool) (tick scale T)) (sym (w .read)) (w .right)))
+own-passes scale T records pool table samples tableAfter samplesAfter n t b answer p c =
+    accepts-exactly scale T records pool (take t tableAfter) (take b samplesAfter) answer c .1 (
+      fine scale T records pool table samples tableAfter samplesAfter n t b p,
+      right-conforms scale T records pool (take t tableAfter) (take b samplesAfter)
+          (track-readable scale T records pool table samples tableAfter samplesAfter n t b p) (track-right scale T records pool table samples tableAfter samplesAfter n t b p),
+    )
 
 pub fewest-samples : FewestSamples
 unfolding packedTrack
-fewest-samples scale T records pool table samples fine e =
-    let w = accepts-exactly scale T records pool table samples fine .0 e in
+fewest-samples scale T records pool table samples tableAfter samplesAfter n t b p others bytes c =
+    let f = fine scale T records pool table samples tableAfter samplesAfter n t b p in
+    let w = accepts-exactly scale T records pool others bytes Fine c .0 refl .1 in
     omega (
       arith,
-      length-track table samples,
-      fewest (cuesOf scale records pool) (tick scale T) (trackOf table samples) (fine-proper scale T records pool fine) (conforms-right scale T records pool table samples w),
+      count-is scale T records pool table samples tableAfter samplesAfter n t b p,
+      length-track others bytes,
+      fewest (cuesOf scale records pool) (tick scale T) (trackOf others bytes) (fine-proper scale T records pool f) (conforms-right scale T records pool others bytes w),
     )
-
--- demand 3 word for word, and the exact place of 16
-pub check-exactly : AcceptsExactly
-check-exactly = accepts-exactly
-
-pub place-exactly : DiffersExactly
-place-exactly = differs-exactly
-
-same-cues : (scale T : ℕ) (records pool : List ℕ) → judgeList scale T records pool ≡ Fine → 1000 ≤ scale
-    → SameCues records pool (recordsOf scale (cuesOf scale records pool)) (poolOf (cuesOf scale records pool))
-unfolding count
-same-cues scale T records pool fine large =
-    let r = same-record scale T records pool fine large in
-    record {
-      many = ap (λ (k : ℕ). k / 24) (same-length scale T records pool fine large);
-      id = λ i l. r i l .id;
-      start = λ i l. r i l .start;
-      end = λ i l. r i l .end;
-      identifier = λ i l. r i l .identifier;
-      settings = λ i l. r i l .settings;
-      payload = λ i l. r i l .payload;
-    }
-
--- demand 2's way back: what unpacking lists is the packed list
-pub comes-back-same : ComesBack
-comes-back-same scale T records pool a b fine large ra rb =
-    let t = tableBytes (packedTrack scale T records pool) in
-    let s = samplesBytes (packedTrack scale T records pool) in
-    let cs = cuesOf scale records pool in
-    let w = comes-back scale T records pool fine large t s (length records) (length (poolOf cs)) (packed-fine scale T records pool fine) (reads-back scale T records pool fine) (omega arith) (omega arith) in
-    let rb′ : length (poolOf cs) ≤ b = rw (w .1) at rb in
-    let v = comes-back scale T records pool fine large t s a b (packed-fine scale T records pool fine) (reads-back scale T records pool fine) ra rb′ in
-    let n : length (recordsOf scale cs) ≡ length records = same-length scale T records pool fine large in
-    rw (w .1) (v .0 ∙ ap (λ (k : ℕ). Done k (length (poolOf cs)) T) (sym n), same-cues scale T records pool fine large)
-
-pub unpacked-is-fine : UnpackedIsFine
-unpacked-is-fine scale table samples a b n p T e = unpacked-fine scale table samples a b n p T e
-
-pub unpacked-passes : UnpackedPasses
-unfolding conformance
-unpacked-passes scale table samples a b n p T e small =
-    rw (unpacked-fine scale table samples a b n p T e, success scale table samples a b n p T e .fine, check-accepts scale table samples a b n p T e small)

@@ -1,2 +1,5 @@
+pub mod Reading
 pub mod Demands
+pub mod Unpacking
+pub mod Numbers
 pub mod Cases

@@ -1,11 +1,10 @@
 -- The cases of document 01 that are proved, in one table with a single statement.
 use Prim.Native.Nat.{ℕ, _+_}
-use mathlib.Core.Path.{_≡_, refl}
+use mathlib.Core.Path.{_≡_}
+use mathlib.Core.Bool.{true}
 use mathlib.Core.List.{List, [], _∷_, _++_, map}
 use mathlib.Core.Option.{Option, none, some}
 use lib.ListN.{length}
-use Rattle.verdict.specs.declared.Verdict.{Verdict}
-use Rattle.verdict.specs.declared.Verdict.the-variants.{Fine, Refused}
 use Rattle.fields.specs.BigEndian.{bytes}
 use Rattle.characters.specs.declared.Counted.{Counted}
 use Rattle.characters.specs.declared.Counted.the-variants.{Characters, Bad}
@@ -13,12 +12,16 @@ use Rattle.characters.specs.Characters.{charactersOf}
 use Rattle.timeline.specs.Cues.{Body}
 use Rattle.timeline.specs.Tracks.{Sample}
 use Rattle.timeline.specs.Lists.{listed}
-use Rattle.records.specs.Records.{count, endMs}
-use Rattle.cues.specs.Judgement.{judgeList}
-use Rattle.pack.specs.Packing.{packedTrack, tableBytes, samplesBytes}
+use Rattle.records.specs.Records.{count, startMs, endMs}
+use Rattle.pack.specs.declared.Packed.{Packed}
+use Rattle.pack.specs.declared.Packed.the-variants.{Done, Refused}
+use Rattle.pack.specs.Packing.{packedTrack, tableBytes, samplesBytes, packedOf}
 use Rattle.unpack_write.specs.Records.{recordsOf}
-use Rattle.unpack.specs.Unpacking.{trackCues}
-use Rattle.report.specs.Report.{listText}
+use Rattle.unpack.specs.declared.Unpacked.{Unpacked}
+use Rattle.unpack.specs.declared.Unpacked.the-variants.{Done as DoneList, Refused as RefusedTrack}
+use Rattle.unpack.specs.Unpacking.{trackCues, unpackOf}
+use Rattle.input.specs.Line.{lineOf}
+use Rattle.report.specs.Report.{answerText}
 
 -- a cue record in a case: ID, start and end in ms, payload
 pub record Row : Type 0 where
@@ -41,49 +44,61 @@ unfoldable pub rowsPool : List Row → List ℕ
 rowsPool [] = []
 rowsPool (r ∷ rs) = r .payload ++ rowsPool rs
 
--- what a case asks: what the samples hold, the bytes, the times after unpacking, what the program prints; the characters of a text
+-- What a case asks: what the packed samples hold; the bytes that packing writes; the times after unpacking those bytes; what the program prints after an input line; the
+-- characters of a text. What packing or unpacking refuses answers with number and place.
 pub data Question : Type 0 where
   holds : ℕ → ℕ → List Row → Question
   written : ℕ → ℕ → List Row → Question
   back : ℕ → ℕ → List Row → Question
-  prints : ℕ → ℕ → List Row → Question
+  prints : List ℕ → List Row → Question
   characters : List ℕ → Question
-
-abbrev pub unlessRefused : Verdict → List (List ℕ) → List (List ℕ)
-unlessRefused Fine a = a
-unlessRefused (Refused r) a = (r .number ∷ r .place ∷ []) ∷ []
 
 abbrev pub idOf : Option ℕ → ℕ
 idOf none = 0
 idOf (some n) = n
 
-abbrev pub countOf : Counted → List (List ℕ)
-countOf (Characters n) = (n ∷ []) ∷ []
-countOf Bad = []
+-- the durations, and then the IDs that each sample holds
+unfoldable pub heldBy : List Sample → List (List ℕ)
+heldBy track = map (λ (s : Sample). s .duration) track ∷ map (λ (s : Sample). map (λ (y : Body). idOf (y .id)) (s .held)) track
 
--- the durations, and then the IDs that each sample holds; or number and place
-unfoldable pub askHolds : ℕ → ℕ → List ℕ → List ℕ → List (List ℕ)
-askHolds scale T recs pool =
-    unlessRefused (judgeList scale T recs pool)
-    (map (λ (s : Sample). s .duration) (packedTrack scale T recs pool) ∷ map (λ (s : Sample). map (λ (y : Body). idOf (y .id)) (s .held)) (packedTrack scale T recs pool))
+-- the starts, the ends and T
+unfoldable pub timesOf : List ℕ → ℕ → List (List ℕ)
+timesOf recs T = listed (startMs recs) (count recs) ∷ listed (endMs recs) (count recs) ∷ (T ∷ []) ∷ []
 
--- the table and the samples
-unfoldable pub askWritten : ℕ → ℕ → List ℕ → List ℕ → List (List ℕ)
-askWritten scale T recs pool = unlessRefused (judgeList scale T recs pool) (tableBytes (packedTrack scale T recs pool) ∷ samplesBytes (packedTrack scale T recs pool) ∷ [])
+-- packing's answer, with what it has written
+abbrev pub ifPacked : Packed → List (List ℕ) → List (List ℕ)
+ifPacked (Done n t b) a = a
+ifPacked (Refused r) a = (r .number ∷ r .place ∷ []) ∷ []
 
--- the end of each record after packing and unpacking, in ms
-unfoldable pub askBack : ℕ → List ℕ → List (List ℕ)
-askBack scale recs = listed (λ i. endMs recs i) (count recs) ∷ []
+-- unpacking's answer, with what it has written
+abbrev pub ifUnpacked : Unpacked → List ℕ → List (List ℕ)
+ifUnpacked (DoneList n p T) recs = timesOf recs T
+ifUnpacked (RefusedTrack r) recs = (r .number ∷ r .place ∷ []) ∷ []
+
+abbrev pub ifCounted : Counted → List (List ℕ)
+ifCounted (Characters n) = (n ∷ []) ∷ []
+ifCounted Bad = []
+
+-- packing with room for 1,000 bytes in each output
+unfoldable pub askPacking : ℕ → ℕ → List ℕ → List ℕ → List (List ℕ) → List (List ℕ)
+askPacking scale T recs pool a = ifPacked (packedOf scale T recs pool 1000 1000) a
+
+-- unpacking with as much
+unfoldable pub askUnpacking : ℕ → List ℕ → List ℕ → List (List ℕ)
+unfolding timesOf
+askUnpacking scale table samples = ifUnpacked (unpackOf scale table samples 1000 1000) (recordsOf scale (trackCues table samples))
 
 unfoldable pub asked : Question → List (List ℕ)
-unfolding askHolds askWritten askBack
-asked (holds scale T rs) = askHolds scale T (rowsBytes 0 rs) (rowsPool rs)
-asked (written scale T rs) = askWritten scale T (rowsBytes 0 rs) (rowsPool rs)
+unfolding askPacking askUnpacking heldBy
+asked (holds scale T rs) = askPacking scale T (rowsBytes 0 rs) (rowsPool rs) (heldBy (packedTrack scale T (rowsBytes 0 rs) (rowsPool rs)))
+asked (written scale T rs) =
+    askPacking scale T (rowsBytes 0 rs) (rowsPool rs)
+    (tableBytes (packedTrack scale T (rowsBytes 0 rs) (rowsPool rs)) ∷ samplesBytes (packedTrack scale T (rowsBytes 0 rs) (rowsPool rs)) ∷ [])
 asked (back scale T rs) =
-    askBack scale
-    (recordsOf scale (trackCues (tableBytes (packedTrack scale T (rowsBytes 0 rs) (rowsPool rs))) (samplesBytes (packedTrack scale T (rowsBytes 0 rs) (rowsPool rs)))))
-asked (prints scale T rs) = listText scale T (rowsBytes 0 rs) (rowsPool rs) ∷ []
-asked (characters s) = countOf (charactersOf s)
+    askPacking scale T (rowsBytes 0 rs) (rowsPool rs)
+    (askUnpacking scale (tableBytes (packedTrack scale T (rowsBytes 0 rs) (rowsPool rs))) (samplesBytes (packedTrack scale T (rowsBytes 0 rs) (rowsPool rs))))
+asked (prints line rs) = answerText (lineOf line) true (rowsBytes 0 rs) (rowsPool rs) ∷ []
+asked (characters s) = ifCounted (charactersOf s)
 
 -- a question and its answer
 pub record Case : Type 0 where
@@ -105,8 +120,8 @@ cases =
       answer = (11000 ∷ 1500 ∷ 500 ∷ 4000 ∷ 1000 ∷ 2000 ∷ []) ∷ [] ∷ (1 ∷ []) ∷ [] ∷ (2 ∷ []) ∷ (2 ∷ 3 ∷ []) ∷ (3 ∷ []) ∷ [];
     }
     ∷ record { question = holds 1500 999 abutting; answer = (499 ∷ 500 ∷ 499 ∷ []) ∷ (1 ∷ []) ∷ (2 ∷ []) ∷ (3 ∷ []) ∷ [] }
-    ∷ record { question = back 1500 999 abutting; answer = (333 ∷ 666 ∷ 999 ∷ []) ∷ [] }
-    ∷ record { question = holds 25 1000 (record { id = 1; start = 41; end = 79; payload = [] } ∷ []); answer = (10 ∷ 0 ∷ []) ∷ [] }
+    ∷ record { question = back 1500 999 abutting; answer = (0 ∷ 333 ∷ 666 ∷ []) ∷ (333 ∷ 666 ∷ 999 ∷ []) ∷ (999 ∷ []) ∷ [] }
+    ∷ record { question = holds 25 1000 (record { id = 1; start = 0; end = 40; payload = [] } ∷ record { id = 2; start = 41; end = 79; payload = [] } ∷ []); answer = (10 ∷ 1 ∷ []) ∷ [] }
     ∷ record { question = holds 25 80 (record { id = 1; start = 41; end = 80; payload = [] } ∷ []); answer = (1 ∷ 1 ∷ []) ∷ [] ∷ (1 ∷ []) ∷ [] }
     ∷ record { question = written 1000 1000 []; answer = (0x00 ∷ 0x00 ∷ 0x03 ∷ 0xE8 ∷ 0x00 ∷ 0x00 ∷ 0x00 ∷ 0x08 ∷ []) ∷ (0x00 ∷ 0x00 ∷ 0x00 ∷ 0x08 ∷ 0x76 ∷ 0x74 ∷ 0x74 ∷ 0x65 ∷ []) ∷ [] }
     ∷ record {
@@ -115,7 +130,7 @@ cases =
           ∷ (0x00 ∷ 0x00 ∷ 0x00 ∷ 0x1E ∷ 0x76 ∷ 0x74 ∷ 0x74 ∷ 0x63 ∷ 0x00 ∷ 0x00 ∷ 0x00 ∷ 0x0C ∷ 0x76 ∷ 0x73 ∷ 0x69 ∷ 0x64 ∷ 0x00 ∷ 0x00 ∷ 0x00 ∷ 0x07
           ∷ 0x00 ∷ 0x00 ∷ 0x00 ∷ 0x0A ∷ 0x70 ∷ 0x61 ∷ 0x79 ∷ 0x6C ∷ 0x48 ∷ 0x69 ∷ []) ∷ [];
     }
-    ∷ record { question = prints 90000 1000 hi; answer = (0x39 ∷ 0x30 ∷ 0x30 ∷ 0x30 ∷ 0x30 ∷ 0x20 ∷ 0x33 ∷ 0x30 ∷ 0x0A ∷ []) ∷ [] }
+    ∷ record { question = prints (0x39 ∷ 0x30 ∷ 0x30 ∷ 0x30 ∷ 0x30 ∷ 0x20 ∷ 0x31 ∷ 0x30 ∷ 0x30 ∷ 0x30 ∷ 0x0A ∷ []) hi; answer = (0x39 ∷ 0x30 ∷ 0x30 ∷ 0x30 ∷ 0x30 ∷ 0x20 ∷ 0x33 ∷ 0x30 ∷ 0x0A ∷ []) ∷ [] }
     ∷ record { question = characters (0xC3 ∷ 0xA9 ∷ []); answer = (1 ∷ []) ∷ [] }
     ∷ record { question = characters (0xFE ∷ 0xFF ∷ 0xD8 ∷ 0x3D ∷ 0xDE ∷ 0x00 ∷ []); answer = (1 ∷ []) ∷ [] }
     ∷ record { question = characters (0xFE ∷ 0xFF ∷ []); answer = (0 ∷ []) ∷ [] }

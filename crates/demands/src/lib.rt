@@ -1,1 +1,45 @@
-// No code: the demands as theorems over the definitions of the other crates (specs/), with their proofs (proofs/).
+// The three operations, each with the contract that the demands start from (specs/Calls.antt). The demands are theorems about every such call (specs/), with their
+// proofs (proofs/).
+use conform::check_track;
+use pack::Packed;
+use unpack::Unpacked;
+use verdict::Verdict;
+ghost use Rattle.demands.specs.Calls.{PackCall, CheckCall, UnpackCall};
+
+pub fn pack_list(
+    scale: u32,
+    t: u32,
+    records: &[u8],
+    pool: &[u8],
+    table: &mut [u8],
+    samples: &mut [u8],
+) -> Packed
+    ensures { λ r. ⌜ PackCall scale t (now (records .entry)) (now (pool .entry)) (now (table .entry)) (now (samples .entry)) (now (table .exit)) (now (samples .exit)) r ⌝ }
+{
+    pack::pack(scale, t, records, pool, &mut *table, &mut *samples)
+}
+
+pub fn check_list(
+    scale: u32,
+    t: u32,
+    records: &[u8],
+    pool: &[u8],
+    table: &[u8],
+    samples: &[u8],
+) -> Verdict
+    ensures { λ r. ⌜ CheckCall scale t (now (records .entry)) (now (pool .entry)) (now (table .entry)) (now (samples .entry)) r ⌝ }
+{
+    check_track(scale, t, records, pool, table, samples)
+}
+
+pub fn unpack_track(
+    scale: u32,
+    table: &[u8],
+    samples: &[u8],
+    records: &mut [u8],
+    pool: &mut [u8],
+) -> Unpacked
+    ensures { λ r. ⌜ UnpackCall scale (now (table .entry)) (now (samples .entry)) (now (records .entry)) (now (pool .entry)) (now (records .exit)) (now (pool .exit)) r ⌝ }
+{
+    unpack::unpack(scale, table, samples, &mut *records, &mut *pool)
+}

@@ -4,9 +4,13 @@ use mathlib.Core.Path.{_≡_, refl, sym, ap, _∙_}
 use mathlib.Core.List.{List, [], _∷_, _++_}
 use native.Mathlib.Omega.{arith}
 use native.Mathlib.Nat.{add-zero, zero-add, add-suc, add-assoc, pow-suc}
-use lib.ListN.{length, length-append, List·getD-append}
+use lib.ListN.{length, getD, length-append, List·getD-append}
 use lib.Seq.{getD-append-add, getD-at}
-use Rattle.fields.specs.BigEndian.{be, bytes, Bytes, Bytes}
+use Rattle.fields.specs.BigEndian.{be, bytes, BeBytes}
+
+-- each of the bytes is one
+abbrev pub Bytes : List ℕ → Type 0
+Bytes s = (i : ℕ) → getD s i 0 < 256
 
 pub be-fits : (w : ℕ) (s : List ℕ) (at : ℕ) → Bytes s → be w s at < 256 ^ w
 unfolding be
@@ -17,12 +21,6 @@ pub length-bytes : (w v : ℕ) → length (bytes w v) ≡ w
 unfolding bytes
 length-bytes zero v = refl
 length-bytes (suc w) v = rw length-append (omega (arith, length-bytes w (v / 256)))
-
--- a number of v and w bytes is the one of the first v and the one of the w behind them
-pub be-add : (v w : ℕ) (s : List ℕ) (at : ℕ) → be (v + w) s at ≡ be v s at * 256 ^ w + be w s (at + v)
-unfolding be
-be-add v zero s at = rw add-zero (omega arith)
-be-add v (suc w) s at = rw (add-suc, be, be-add v w s at, pow-suc, add-assoc) (omega arith)
 
 -- a number stands where its bytes stand: what is behind them, and what is before them
 pub be-front : (w : ℕ) (s r : List ℕ) (at : ℕ) → at + w ≤ length s → be w (s ++ r) at ≡ be w s at
@@ -35,8 +33,7 @@ unfolding be
 be-behind zero p q at = refl
 be-behind (suc w) p q at = rw (be-behind w p q at, add-assoc (length p) at w, getD-append-add p q (at + w) 0)
 
--- the bytes of a number, read again
-pub be-bytes : (w v : ℕ) → v < 256 ^ w → be w (bytes w v) 0 ≡ v
+pub be-bytes : BeBytes
 unfolding be bytes
 be-bytes zero v h = omega arith
 be-bytes (suc w) v h =
@@ -52,3 +49,9 @@ be-written w v p r h =
     ∙ be-behind w p (bytes w v ++ r) 0
     ∙ be-front w (bytes w v) r 0 (omega arith)
     ∙ be-bytes w v h
+
+-- a number of v and w bytes is the one of the first v and the one of the w behind them
+pub be-add : (v w : ℕ) (s : List ℕ) (at : ℕ) → be (v + w) s at ≡ be v s at * 256 ^ w + be w s (at + v)
+unfolding be
+be-add v zero s at = rw add-zero (omega arith)
+be-add v (suc w) s at = rw (add-suc, be, be-add v w s at, pow-suc, add-assoc) (omega arith)

@@ -1,5 +1,6 @@
 -- Big-endian numbers of any width, in a list of bytes.
-use Prim.Native.Nat.{ℕ, zero, suc, _+_, _*_, _/_, _%_, _<_}
+use Prim.Native.Nat.{ℕ, zero, suc, _+_, _*_, _/_, _%_, _^_, _<_}
+use mathlib.Core.Path.{_≡_}
 use mathlib.Core.List.{List, [], _∷_, _++_}
 use lib.ListN.{getD}
 
@@ -13,6 +14,6 @@ unfoldable pub bytes : ℕ → ℕ → List ℕ
 bytes zero v = []
 bytes (suc w) v = bytes w (v / 256) ++ v % 256 ∷ []
 
--- each of the bytes is one
-abbrev pub Bytes : List ℕ → Type 0
-Bytes s = (i : ℕ) → getD s i 0 < 256
+-- the bytes of a number give it back; proved in proofs/BigEndian.antt
+abbrev pub BeBytes : Type 0
+BeBytes = (w v : ℕ) → v < 256 ^ w → be w (bytes w v) 0 ≡ v

@@ -16,7 +16,7 @@ use Rattle.timeline.specs.Joining.{Taking, refused, going, takeBody, onTaking, 
 use Rattle.timeline.proofs.Listing.{length-listed, listed-from}
 use Rattle.timeline.proofs.Holding.{total-snoc}
 use Rattle.wvtt_cues.specs.Cues.{sampleCues}
-use Rattle.wvtt_cues.proofs.Walk.{heldFrom}
+use Rattle.wvtt_cues.specs.Walk.{heldFrom}
 use Rattle.rows.specs.Table.{Good}
 use native.Mathlib.Nat.{not-suc-le-zero}
 use Rattle.track.specs.Track.{rowCount, durationOf, sizeOf, offsetOf, judgeTrack, sampleOf, trackOf}

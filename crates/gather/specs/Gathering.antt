@@ -1,4 +1,4 @@
--- What the answers say of the cues that are known.
+-- Terms of the contracts of functions that only unpacking calls: what the answers say of the cues that are known.
 use Prim.Native.Nat.{ℕ, _≤_, _<_}
 use mathlib.Core.Path.{_≡_}
 use mathlib.Core.List.{List}

@@ -83,6 +83,7 @@ fn take_sample(
     loop {
         let h = next_cue(&samples[at..end], from);
         let Held::Cue { parts, next } = h else {
+            // the end: a track without fault has no refusal here
             return Took::Goes { count, least: k };
         };
         let y = new_row(parts, at, b, e);

@@ -9,10 +9,10 @@ use borrow.Author.Tests.{eq-eqb}
 use Rattle.base.specs.Choice.{pick, both, sameList}
 use Rattle.base.proofs.Choice.{by-test}
 use Rattle.decimal.specs.Decimal.{value, valueFrom}
-use Rattle.input.specs.Reading.{isDigit, top, grown, fed, lineAt}
+use Rattle.input.specs.Reading.{grown, fed, lineAt, FedLine}
 use Rattle.input.proofs.Lines.{apart}
-use Rattle.input.specs.Line.{before, behind, allDigits, number, written, lineOf}
-use Rattle.input.specs.declared.Reading.the-variants.{Start, Scale, Space, Time, Whole, Wrong}
+use Rattle.input.specs.Line.{isDigit, top, before, behind, allDigits, number, written, lineOf}
+use Rattle.input.specs.declared.Reading.the-variants.{Scale, Space, Time, Whole, Wrong}
 use Rattle.input.specs.declared.Line.the-variants.{Numbers, Bad}
 
 both-true : (a : Bool) → both a true ≡ a
@@ -94,7 +94,7 @@ fed-scale v (b ∷ s) h =
     (λ e. rw (d, e, e, top-low v h) (fed-space v s))
     (λ e. rw (d, e, d, both-false (both (eqb b b) (sameList s (written (before 32 s) x)))) (fed-wrong s)))
 
-pub fed-line : (s : List ℕ) → lineAt (fed Start s) ≡ lineOf s
+pub fed-line : FedLine
 unfolding fed lineOf sameList before behind written allDigits value valueFrom grown
 fed-line [] = refl
 fed-line (b ∷ s) =

@@ -15,7 +15,8 @@ use lib.Seq.{drop-cons}
 use borrow.Author.Tests.{lt-leb, le-leb, leb-true}
 use Rattle.base.specs.Choice.{within}
 use Rattle.base.proofs.Choice.{both-left}
-use Rattle.input.specs.Reading.{isDigit, stepped, fed, lineAt}
+use Rattle.input.specs.Line.{isDigit}
+use Rattle.input.specs.Reading.{stepped, fed, lineAt}
 use Rattle.input.specs.declared.Reading.{Reading}
 use Rattle.input.specs.declared.Reading.the-variants.{Start, Scale, Space, Time, Whole, Wrong}
 use Rattle.input.specs.declared.Line.the-variants.{Bad}

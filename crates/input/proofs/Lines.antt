@@ -9,9 +9,8 @@ use borrow.Author.Tests.{eq-eqb, ne-eqb, leb-true}
 use Rattle.base.specs.Choice.{pick, both, within, sameList}
 use Rattle.base.proofs.Choice.{both-left, both-right, true-false, same-list, list-same}
 use Rattle.decimal.specs.Decimal.{value}
-use Rattle.input.specs.Reading.{isDigit, top}
 use Rattle.input.specs.declared.Line.the-variants.{Numbers, Bad}
-use Rattle.input.specs.Line.{before, behind, allDigits, number, written, lineOf}
+use Rattle.input.specs.Line.{isDigit, top, before, behind, allDigits, number, written, lineOf, LineNumbers, LineWritten}
 
 digits-all : (s : List ℕ) → number s ≡ true → allDigits s ≡ true
 digits-all [] h = true-false false h refl
@@ -36,8 +35,7 @@ behind-digits c (b ∷ a) r h d =
     let e = apart b c (both-left (isDigit b) (allDigits a) d) h in
     rw e (behind-digits c a r h (both-right (isDigit b) (allDigits a) d))
 
--- two numbers are a line, and no other bytes are
-pub line-numbers : (a b : List ℕ) → number a ≡ true → number b ≡ true → lineOf (written a b) ≡ Numbers (top (value a)) (top (value b))
+pub line-numbers : LineNumbers
 unfolding lineOf written
 line-numbers a b h k =
     let x : before 32 (written a b) ≡ a = before-digits 32 a (b ++ 10 ∷ []) (omega arith) (digits-all a h) in
@@ -45,8 +43,7 @@ line-numbers a b h k =
     let z : before 10 (b ++ 10 ∷ []) ≡ b = before-digits 10 b [] (omega arith) (digits-all b k) in
     rw (x, y, z, list-same (written a b), h, k)
 
-pub line-written : (s : List ℕ) (x y : ℕ) → lineOf s ≡ Numbers x y
-    → (a : List ℕ) × (b : List ℕ) × (s ≡ written a b) × (number a ≡ true) × (number b ≡ true) × (x ≡ top (value a)) × (y ≡ top (value b))
+pub line-written : LineWritten
 unfolding lineOf
 line-written s x y e =
     let a = before 32 s in

@@ -1,21 +1,15 @@
--- The input line, read byte by byte.
-use Prim.Native.Nat.{ℕ, _+_, _-_, _*_, min}
-use mathlib.Core.Bool.{Bool}
-use mathlib.Core.List.{List, [], _∷_}
+-- Terms of the contracts of `feed`, `finish` and the private functions: the line as it is read, byte by byte. A reader need not believe them: `fed-append`
+-- and `fed-line` say that the bytes, in whatever chunks, give the line of specs/Line.antt.
+use Prim.Native.Nat.{ℕ, _+_, _-_, _*_}
+use mathlib.Core.Path.{_≡_}
+use mathlib.Core.List.{List, [], _∷_, _++_}
 use lib.Dec.{eqb}
-use Rattle.base.specs.Choice.{pick, within}
+use Rattle.base.specs.Choice.{pick}
+use Rattle.input.specs.Line.{isDigit, top, lineOf}
 use Rattle.input.specs.declared.Reading.{Reading}
 use Rattle.input.specs.declared.Reading.the-variants.{Start, Scale, Space, Time, Whole, Wrong}
 use Rattle.input.specs.declared.Line.{Line}
 use Rattle.input.specs.declared.Line.the-variants.{Numbers, Bad}
-
-unfoldable pub isDigit : ℕ → Bool
-unfolding within
-isDigit b = within 48 57 b
-
--- a number above 4294967295 counts as that
-unfoldable pub top : ℕ → ℕ
-top n = min n 4294967295
 
 -- v with the digit b behind it
 unfoldable pub grown : ℕ → ℕ → ℕ
@@ -44,3 +38,11 @@ lineAt (Space v) = Bad
 lineAt (Time v w) = Bad
 lineAt (Whole v w) = Numbers v w
 lineAt Wrong = Bad
+
+-- chunk by chunk is the same; proved in proofs/Chunks.antt
+abbrev pub FedAppend : Type 0
+FedAppend = (r : Reading) (a b : List ℕ) → fed r (a ++ b) ≡ fed (fed r a) b
+
+-- all the bytes give the line; proved in proofs/Fed.antt
+abbrev pub FedLine : Type 0
+FedLine = (s : List ℕ) → lineAt (fed Start s) ≡ lineOf s

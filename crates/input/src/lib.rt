@@ -1,7 +1,8 @@
 // The program's input line: scale and T in decimal, a space between, LF after, and nothing else. It is read in chunks.
 ghost use mathlib.Core.Path.{_≡_};
 ghost use mathlib.Core.Bool.{true};
-ghost use Rattle.input.specs.Reading.{isDigit, grown, stepped, fed, lineAt};
+ghost use Rattle.input.specs.Line.{isDigit};
+ghost use Rattle.input.specs.Reading.{grown, stepped, fed, lineAt};
 
 // How far the line is read, with the numbers so far. A number above 4294967295 counts as that.
 pub enum Reading {

@@ -28,6 +28,7 @@ use Rattle.cues.proofs.Sound.{fine-sound, fine-proper, length-cues}
 use Rattle.track.specs.Track.{trackOf, judgeTrack, Readable}
 use Rattle.cuts.specs.Cuts.{orEmpty}
 use Rattle.pack.specs.Packing.{packedTrack, tableBytes, samplesBytes}
+use Rattle.pack.specs.Statements.{PackedIsRight, SamplesMost, ReadsBack, PackedReadable}
 use Rattle.pack.proofs.Laws.{body-lengths, sample-length}
 use Rattle.pack.proofs.ReadBack.{Writable, comes-back, written-readable, written-fine}
 
@@ -108,6 +109,14 @@ total-most (x ∷ l) s m =
       | inr j ↦ omega (arith, total-most l s j)
     ]
 
+pub packed-is-right : PackedIsRight
+unfolding packedTrack
+packed-is-right scale T recs pool fine = packed-right (cuesOf scale recs pool) (tick scale T) (fine-proper scale T recs pool fine)
+
+pub samples-most : SamplesMost
+unfolding packedTrack
+samples-most scale T recs pool fine = omega (arith, at-most (cuesOf scale recs pool) (tick scale T), length-cues scale T recs pool)
+
 module _ (scale T : ℕ) (recs pool : List ℕ) (fine : judgeList scale T recs pool ≡ Fine) where
   sound : Sound scale T recs pool
   sound = fine-sound scale T recs pool fine
@@ -119,21 +128,11 @@ module _ (scale T : ℕ) (recs pool : List ℕ) (fine : judgeList scale T recs p
       let v = mem-listed (cueOf scale recs pool) (count recs) (w .0) (w .1) in
       subst Fit (sym (w .3 ∙ ap (λ (x : Cue). x .body) (v .2))) (record-fit scale T recs pool (v .0) (sound .records (v .0) (v .1)))
 
-  -- the durations add up to the ticks of T, and at each tick the right cues are held
-  pub packed-is-right : Right (cuesOf scale recs pool) (tick scale T) (packedTrack scale T recs pool)
-  unfolding packedTrack
-  packed-is-right = packed-right (cuesOf scale recs pool) (tick scale T) (fine-proper scale T recs pool fine)
-
   pub durations-sum : total (packedTrack scale T recs pool) ≡ tick scale T
-  durations-sum = packed-is-right .sums
-
-  -- n records give at most 2n + 1 samples
-  pub samples-most : length (packedTrack scale T recs pool) ≤ 2 * count recs + 1
-  unfolding packedTrack
-  samples-most = omega (arith, at-most (cuesOf scale recs pool) (tick scale T), length-cues scale T recs pool)
+  durations-sum = packed-is-right scale T recs pool fine .sums
 
   pub samples-few : length (packedTrack scale T recs pool) ≤ 2049
-  samples-few = omega (arith, samples-most, sound .few)
+  samples-few = omega (arith, samples-most scale T recs pool fine, sound .few)
 
   held-writes : (b e : ℕ) → AllSound (heldOver (cuesOf scale recs pool) b e) × (length (sampleBytes (heldOver (cuesOf scale recs pool) b e)) < 4294967296)
   held-writes b e = (
@@ -146,19 +145,19 @@ module _ (scale T : ℕ) (recs pool : List ℕ) (fine : judgeList scale T recs p
   writable s m =
       let w = stretch-held (λ ys. AllSound ys × (length (sampleBytes ys) < 4294967296)) (heldOver (cuesOf scale recs pool)) held-writes (sorted (marks (cuesOf scale recs pool) (tick scale T))) s m in
       record {
-        lasts = packed-is-right .positive s m;
+        lasts = packed-is-right scale T recs pool fine .positive s m;
         short = omega (arith, total-most (packedTrack scale T recs pool) s m, durations-sum, sound .limits .tick-most);
         sound = w .0;
         small = w .1;
       }
 
-  -- what was written reads back as the packed track
-  pub reads-back : trackOf (tableBytes (packedTrack scale T recs pool)) (samplesBytes (packedTrack scale T recs pool)) ≡ packed (cuesOf scale recs pool) (tick scale T)
-  unfolding packedTrack
-  reads-back = comes-back (packedTrack scale T recs pool) writable
-
-  pub packed-readable : Readable (tableBytes (packedTrack scale T recs pool)) (samplesBytes (packedTrack scale T recs pool))
-  packed-readable = written-readable (packedTrack scale T recs pool) writable (omega (arith, samples-few))
-
   pub packed-fine : judgeTrack (tableBytes (packedTrack scale T recs pool)) (samplesBytes (packedTrack scale T recs pool)) ≡ Fine
   packed-fine = written-fine (packedTrack scale T recs pool) writable (omega (arith, samples-few))
+
+pub reads-back : ReadsBack
+unfolding packedTrack
+reads-back scale T recs pool fine = comes-back (packedTrack scale T recs pool) (writable scale T recs pool fine)
+
+pub packed-readable : PackedReadable
+packed-readable scale T recs pool fine =
+    written-readable (packedTrack scale T recs pool) (writable scale T recs pool fine) (omega (arith, samples-few scale T recs pool fine))

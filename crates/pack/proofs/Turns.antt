@@ -16,7 +16,8 @@ use Rattle.timeline.specs.Cues.{Body}
 use Rattle.timeline.specs.Tracks.{Sample, blank}
 use Rattle.timeline.specs.Packing.{edges, marks, sorted, stretches, heldOver, packed}
 use Rattle.timeline.proofs.Packed.{over-is, edges-append}
-use Rattle.timeline.proofs.Nearest.{nearest, nearest-le}
+use Rattle.timeline.specs.Nearest.{nearest}
+use Rattle.timeline.proofs.Nearest.{nearest-le}
 use Rattle.timeline.proofs.Fewest.{count-stretches}
 use Rattle.timeline.proofs.Indexed.{stretch-at}
 use Rattle.wvtt_write.specs.Written.{sampleBytes}

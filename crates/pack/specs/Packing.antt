@@ -58,16 +58,3 @@ packedOf scale T recs pool tableRoom samplesRoom = unlessFaulty (judgeList scale
 abbrev pub after : Packed → List ℕ → List ℕ → List ℕ
 after (Done n t b) p d = over p d
 after (Refused r) p d = d
-
--- number, place and sample count as document 01 gives them back; 0 where it gives none
-abbrev pub numberOf : Packed → ℕ
-numberOf (Done n t b) = 0
-numberOf (Refused r) = r .number
-
-abbrev pub placeOf : Packed → ℕ
-placeOf (Done n t b) = 0
-placeOf (Refused r) = r .place
-
-abbrev pub countOf : Packed → ℕ
-countOf (Done n t b) = n
-countOf (Refused r) = 0

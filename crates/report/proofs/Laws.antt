@@ -5,12 +5,12 @@ use mathlib.Core.List.{List, _++_}
 use native.Mathlib.Omega.{arith}
 use lib.ListN.{length, drop, length-append}
 use Rattle.base.specs.Over.{over}
-use Rattle.fields.specs.BigEndian.{be}
 use Rattle.fields.proofs.BigEndian.{be-front}
 use Rattle.listing.specs.Listing.{pairText, rowText, rowsText}
 use Rattle.pack.specs.declared.Packed.{Packed}
 use Rattle.pack.specs.declared.Packed.the-variants.{Done, Refused}
-use Rattle.pack.specs.Packing.{packedTrack, tableBytes, packedOf, after, countOf}
+use Rattle.pack.specs.Packing.{packedTrack, tableBytes, packedOf, after}
+use Rattle.pack.specs.Writing.{countOf}
 use Rattle.pack.proofs.Laws.{length-table}
 use Rattle.pack.proofs.Answers.{done-means}
 use Rattle.report.specs.Report.{packedText, listText}

@@ -8,7 +8,7 @@ ghost use mathlib.Core.Path.{_≡_};
 ghost use Prim.Native.Nat.{_*_, _≤_};
 ghost use lib.ListN.{length};
 ghost use Rattle.base.specs.Over.{over};
-ghost use Rattle.pack.specs.Packing.{countOf};
+ghost use Rattle.pack.specs.Writing.{countOf};
 ghost use Rattle.report.specs.Report.{packedText, listText, usable, answerText};
 
 // The table's lines, or the refusal's; gives their length.

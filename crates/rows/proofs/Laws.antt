@@ -21,7 +21,7 @@ use Rattle.timeline.proofs.Listing.{length-listed, listed-at}
 use Rattle.wvtt_cues.specs.declared.Part.{Part}
 use Rattle.wvtt_cues.specs.declared.Parts.{Parts}
 use Rattle.wvtt_cues.specs.Cues.{textOf, heldBy}
-use Rattle.wvtt_cues.proofs.Walk.{Within, Inside}
+use Rattle.wvtt_cues.specs.Walk.{Within, Inside}
 use Rattle.rows.specs.declared.Row.{Row}
 use Rattle.rows.specs.Table.{rowAt, numbersOf, moved, newRow, bodyAt, cueAt, known, Placed, Missing, Good}
 

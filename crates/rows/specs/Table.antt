@@ -1,4 +1,4 @@
--- The table of the cues that are known, nine numbers for each, and the lists of cues that it stands for.
+-- Terms of the contracts of functions that only unpacking calls: the table of the cues that are known, nine numbers for each, and the lists of cues that it stands for.
 use Prim.Native.Nat.{ℕ, _+_, _*_, _≤_, _<_}
 use mathlib.Core.Logic.{_≢_}
 use mathlib.Core.Bool.{Bool, true}
@@ -12,7 +12,7 @@ use Rattle.timeline.specs.Cues.{Body, Cue}
 use Rattle.wvtt_cues.specs.declared.Part.{Part}
 use Rattle.wvtt_cues.specs.declared.Parts.{Parts}
 use Rattle.wvtt_cues.specs.Cues.{textOf}
-use Rattle.wvtt_cues.proofs.Walk.{Within}
+use Rattle.wvtt_cues.specs.Walk.{Within}
 use Rattle.rows.specs.declared.Row.{Row}
 
 -- row i of a table

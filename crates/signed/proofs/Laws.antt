@@ -8,7 +8,8 @@ use lib.IntN.{pos, negsuc}
 use lib.Signed.{leZ}
 use borrow.Author.Tests.{ltb-true, ltb-false, leb-true, leb-false, le-leb, lt-leb, lt-ltb, le-ltb}
 use Rattle.base.specs.Choice.{pick, both}
-use Rattle.signed.specs.Signed.{signed16, signed8, shift16, justified}
+use Rattle.signed.specs.Signed.{signed16, signed8, justified}
+use Rattle.signed.specs.Rank.{shift16, OrderIs}
 
 -- two tests with equal answers
 same-test : (a b c d : ℕ) → (a ≤ b → c ≤ d) → (c ≤ d → a ≤ b) → leb a b ≡ leb c d
@@ -22,7 +23,7 @@ same-test a b c d f g = go (leb a b) refl
         go₂ true q l = let k = g (leb-true c d q) in absurd (omega arith)
         go₂ false q l = leb-false c d q
 
-pub order-is : (a b : ℕ) → a < 65536 → b < 65536 → leZ (signed16 a) (signed16 b) ≡ leb (shift16 a) (shift16 b)
+pub order-is : OrderIs
 unfolding signed16 shift16
 order-is a b ha hb = go (ltb a 32768) (ltb b 32768) refl refl
   where

@@ -16,10 +16,6 @@ signed16 v = pick (ltb v 32768) (pos v) (negsuc (65535 - v))
 unfoldable pub signed8 : ℕ → ℤ
 signed8 v = pick (ltb v 128) (pos v) (negsuc (255 - v))
 
--- how many numbers of 16 bits are smaller, as signed numbers
-unfoldable pub shift16 : ℕ → ℕ
-shift16 v = pick (ltb v 32768) (v + 32768) (v - 32768)
-
 -- top, left, bottom, right at `at`: top ≤ bottom and left ≤ right
 unfoldable pub ordered : List ℕ → ℕ → Bool
 ordered s at = both (leZ (signed16 (be 2 s at)) (signed16 (be 2 s (at + 4)))) (leZ (signed16 (be 2 s (at + 2))) (signed16 (be 2 s (at + 6))))

@@ -6,7 +6,8 @@ ghost use Prim.Native.Nat.{_+_, _≤_, _<_};
 ghost use lib.ListN.{length};
 ghost use lib.Signed.{leZ};
 ghost use Rattle.fields.specs.BigEndian.{be};
-ghost use Rattle.signed.specs.Signed.{signed16, shift16, ordered, justified};
+ghost use Rattle.signed.specs.Signed.{signed16, ordered, justified};
+ghost use Rattle.signed.specs.Rank.{shift16};
 
 // The place of v in the order of signed numbers, from 0.
 fn rank(v: u32) -> u32

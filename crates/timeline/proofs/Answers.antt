@@ -2,7 +2,7 @@
 use Prim.Native.Nat.{_+_, _<_, _≤_, suc, zero, ℕ}
 use mathlib.Core.Path.{_∙_, _≡_, ap, refl, subst, sym}
 use mathlib.Core.Logic.{_↔_, _⊎_, inl, inr}
-use mathlib.Core.Bool.{false, true}
+use mathlib.Core.Bool.{Bool, false, true}
 use mathlib.Core.Option.{some}
 use mathlib.Core.List.{List, List·Memᴰ, List·Memᴰ·head, Memᴰ·append-right, [], _++_, _∷_, append-nil}
 use native.Mathlib.Omega.{arith}
@@ -12,6 +12,7 @@ use lib.Dec.{leb, ltb}
 use lib.ListN.{getD, length, length-append, take}
 use lib.Seq.{append-snoc}
 use borrow.Author.Tests.{leb-false, leb-true, ltb-false, ltb-true}
+use Rattle.base.specs.Choice.{pick}
 use Rattle.base.proofs.Choice.{both-false, both-left, both-right, by-test, either, true-false}
 use Rattle.timeline.specs.Cues.{Cue, Distinct, Lasting, Proper, runningAt}
 use Rattle.timeline.specs.Tracks.{Positive, Right, Sample, beginOf, blank, endOf, heldOf, total}
@@ -88,14 +89,14 @@ module _ (cues : List Cue) (T : ℕ) (l : Lasting cues) (d : Distinct cues) (tra
       let e : j ≡ length p = omega arith in
       subst (λ (x : ℕ). Good cues T track x) (sym e) now)
 
+  at-end : (p : List Sample) → track ≡ p → ((j : ℕ) → j < length p → Good cues T track j) → total p ≤ T → (t : Bool) → ltb (total p) T ≡ t → Means cues T track (pick t (short (length p)) accepted)
+  at-end p f before low true h = (ap length (sym f), (λ j k. before j (subst (λ (x : List Sample). j < length x) f k)), subst (λ (x : List Sample). total x < T) (sym f) (ltb-true (total p) T h))
+  at-end p f before low false h = good-right cues T track pos (ap total f ∙ (omega (arith, ltb-false (total p) T h))) (λ j k. before j (subst (λ (x : List Sample). j < length x) f k))
+
   walk : (p rest : List Sample) → track ≡ p ++ rest → ((j : ℕ) → j < length p → Good cues T track j) → total p ≤ T
       → Means cues T track (checkFrom cues T (total p) (length p) rest)
   unfolding checkFrom
-  walk p [] e before low =
-      let f : track ≡ p = e ∙ append-nil p in
-      by-test (ltb (total p) T)
-      (λ h. rw h (ap length (sym f), (λ j k. before j (subst (λ (x : List Sample). j < length x) f k)), subst (λ (x : List Sample). total x < T) (sym f) (ltb-true (total p) T h)))
-      (λ h. rw h (good-right cues T track pos (ap total f ∙ (omega (arith, ltb-false (total p) T h))) (λ j k. before j (subst (λ (x : List Sample). j < length x) f k))))
+  walk p [] e before low = at-end p (e ∙ append-nil p) before low (ltb (total p) T) refl
   walk p (s ∷ ss) e before low =
       let k = pos s (subst (λ (x : List Sample). List·Memᴰ s x) (sym e) (Memᴰ·append-right p (List·Memᴰ·head refl))) in
       by-test (fits cues T (total p) s)
@@ -146,16 +147,10 @@ answers cues T track ok pos v =
 pub accepts : (cues : List Cue) (T : ℕ) (track : List Sample) → Proper cues T → Positive track → (check cues T track ≡ accepted) ↔ Right cues T track
 accepts cues T track ok pos = answers cues T track ok pos accepted
 
--- sample i is the first that ends past T or holds a tick with the wrong cues
-pub differs : (cues : List Cue) (T : ℕ) (track : List Sample) → Proper cues T → Positive track → (i : ℕ)
-    → (check cues T track ≡ wrong i) ↔ ((i < length track) × Bad cues T track i × ((j : ℕ) → j < i → ¬ Bad cues T track j))
-differs cues T track ok pos i =
-    let a = answers cues T track ok pos (wrong i) in
-    ((λ e. let w = a .0 e in (w .0, w .1, λ j h b. good-not-bad cues T track j (w .2 j h) b)), λ w. a .1 (w .0, w .1, λ j h. decided j (w .2 j h)))
-  where
-    decided : (j : ℕ) → ¬ Bad cues T track j → Good cues T track j
-    decided j n = (
-      either (endOf track j) T (λ h. h) (λ h. absurd (n (inl h))),
-      λ t w. by-test (sameHeld (heldOf track j) (runningAt cues t)) (λ s. same-held (heldOf track j) (runningAt cues t) s)
-          (λ s. absurd (n (inr (t, w, λ q. true-false (sameHeld (heldOf track j) (runningAt cues t)) (same-so (heldOf track j) (runningAt cues t) q) s)))),
-    )
+-- a sample is good where it is not bad
+pub not-bad-good : (cues : List Cue) (T : ℕ) (track : List Sample) (j : ℕ) → ¬ Bad cues T track j → Good cues T track j
+not-bad-good cues T track j n = (
+  either (endOf track j) T (λ h. h) (λ h. absurd (n (inl h))),
+  λ t w. by-test (sameHeld (heldOf track j) (runningAt cues t)) (λ s. same-held (heldOf track j) (runningAt cues t) s)
+      (λ s. absurd (n (inr (t, w, λ q. true-false (sameHeld (heldOf track j) (runningAt cues t)) (same-so (heldOf track j) (runningAt cues t) q) s)))),
+)

@@ -11,7 +11,8 @@ use Rattle.timeline.specs.Cues.{Body, Cue, Pairs}
 use Rattle.timeline.specs.Tracks.{blank}
 use Rattle.timeline.specs.Packing.{Rising, sorted, stretches}
 use Rattle.timeline.proofs.Sorting.{sorted-sorts}
-use Rattle.timeline.proofs.Nearest.{nearest, nearest-ge, nearest-le}
+use Rattle.timeline.specs.Nearest.{nearest}
+use Rattle.timeline.proofs.Nearest.{nearest-ge, nearest-le}
 
 -- members by index
 pub mem-index : {A : Type 0} (l : List A) (x d : A) → List·Memᴰ x l → (i : ℕ) × (i < length l) × (x ≡ getD l i d)

@@ -17,7 +17,7 @@ use Rattle.base.proofs.Choice.{by-test, either, true-false}
 use Rattle.timeline.specs.Cues.{Body, Cue, sameBody, sameId}
 use Rattle.timeline.specs.Tracks.{Positive, Sample}
 use Rattle.timeline.specs.Unpacking.{ListOf, Known, Unpacked, after, byIndex, done, faulty, fresh, goesOn, hasId, hasNewer, ifNamed, indexOf, known, noCue, onKnown, onRead, orNext, readAll, readBody, readFrom, stopped, till, unpack}
-use Rattle.timeline.specs.Joining.{Taking, again, going, joined, onIndex, onSample, onTaking, refused, takeAll, takeBody, unpackFrom, withId}
+use Rattle.timeline.specs.Joining.{JoinedIs, Taking, again, going, joined, onIndex, onSample, onTaking, refused, takeAll, takeBody, unpackFrom, withId}
 use Rattle.timeline.proofs.Running.{id-same, same-id}
 use Rattle.timeline.proofs.Taking.{found, joined-right}
 
@@ -359,7 +359,7 @@ from-agrees b i last cs (s ∷ ss) pos w =
         rest cs (passes b (b + s .duration) last (s .held) cs k l (a .1)) ∙ ap (λ (z : List Cue). readFrom (b + s .duration) (suc i) (s .held) z ss) (a .0)
 
 -- unpacking as the code does it is unpacking
-pub joined-is : (track : List Sample) → Positive track → joined track ≡ unpack track
+pub joined-is : JoinedIs
 unfolding joined unpack indexOf
 joined-is track pos = from-agrees 0 0 [] [] track pos (record { near = λ n i h. absurd (omega (arith, ap code h)); far = λ n i h. absurd (omega (arith, ap code h)) })
 

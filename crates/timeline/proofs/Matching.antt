@@ -8,7 +8,7 @@ use native.Mathlib.Omega.{arith}
 use native.Mathlib.Nat.{le-refl}
 use lib.Dec.{leb, ltb}
 use borrow.Author.Tests.{leb-false, leb-true, ltb-false, ltb-true}
-use Rattle.base.specs.Choice.{both}
+use Rattle.base.specs.Choice.{both, pick}
 use Rattle.base.proofs.Choice.{both-false, both-left, both-right, by-test, true-false}
 use Rattle.timeline.specs.Cues.{Body, Cue, Distinct, Lasting, Pairs, runningAt, runs, sameBody}
 use Rattle.timeline.specs.Checking.{Stand, matches, meets, noneLeft, out, part, standing, whole}
@@ -22,16 +22,7 @@ Facts c b e part = (t : ℕ) × (u : ℕ) × (b ≤ t) × (t < e) × (b ≤ u) �
 
 pub facts : (c : Cue) (b e : ℕ) → b < e → c .start < c .end → Facts c b e (standing c b e)
 unfolding standing
-facts c b e l k =
-    by-test (ltb (c .start) e)
-    (λ h1. by-test (leb (c .end) b)
-    (λ h2. rw (h1, h2) (λ t lo hi. runs-late c t (omega (arith, leb-true))))
-    (λ h2. by-test (both (leb (c .start) b) (leb e (c .end)))
-    (λ h3. let s = leb-true (c .start) b (both-left (leb (c .start) b) (leb e (c .end)) h3) in
-    let q = leb-true e (c .end) (both-right (leb (c .start) b) (leb e (c .end)) h3) in
-    rw (h1, h2, h3) (λ t lo hi. runs-yes c t (omega arith) (omega arith)))
-    (λ h3. rw (h1, h2, h3) (split (ltb-true (c .start) e h1) (leb-false (c .end) b h2) (both-false (leb (c .start) b) (leb e (c .end)) h3)))))
-    (λ h1. rw h1 (λ t lo hi. runs-early c t (omega (arith, ltb-false))))
+facts c b e l k = go (ltb (c .start) e) refl (leb (c .end) b) refl (both (leb (c .start) b) (leb e (c .end))) refl
   where
     split : c .start < e → b < c .end → (leb (c .start) b ≡ false) ⊎ (leb e (c .end) ≡ false) → Facts c b e part
     split p q (inl h) =
@@ -42,6 +33,15 @@ facts c b e l k =
         by-test (leb (c .start) b)
         (λ y. let z = leb-true (c .start) b y in (b, c .end, le-refl b, l, omega arith, r, runs-yes c b z q, runs-late c (c .end) (le-refl (c .end))))
         (λ y. let z = leb-false (c .start) b y in (c .start, b, omega arith, omega arith, le-refl b, l, runs-yes c (c .start) (le-refl (c .start)) k, runs-early c b z))
+
+    go : (p : Bool) → ltb (c .start) e ≡ p → (q : Bool) → leb (c .end) b ≡ q → (r : Bool) → both (leb (c .start) b) (leb e (c .end)) ≡ r → Facts c b e (pick p (pick q out (pick r whole part)) out)
+    go false h1 q h2 r h3 = λ t lo hi. runs-early c t (omega (arith, ltb-false))
+    go true h1 true h2 r h3 = λ t lo hi. runs-late c t (omega (arith, leb-true))
+    go true h1 false h2 true h3 =
+        let s = leb-true (c .start) b (both-left (leb (c .start) b) (leb e (c .end)) h3) in
+        let q = leb-true e (c .end) (both-right (leb (c .start) b) (leb e (c .end)) h3) in
+        λ t lo hi. runs-yes c t (omega arith) (omega arith)
+    go true h1 false h2 false h3 = split (ltb-true (c .start) e h1) (leb-false (c .end) b h2) (both-false (leb (c .start) b) (leb e (c .end)) h3)
 
 -- where the test says yes, the sample holds what runs, at each of its ticks
 pub matches-right : (cs : List Cue) (b e : ℕ) (held : List Body) → b < e → Lasting cs → matches cs b e held ≡ true

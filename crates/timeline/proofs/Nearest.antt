@@ -11,13 +11,9 @@ use Rattle.base.proofs.Choice.{by-test}
 use Rattle.base.specs.Choice.{pick}
 use Rattle.timeline.specs.Cues.{Cue, Proper}
 use Rattle.timeline.specs.Packing.{Rising, Sorts, marks, sorted}
+use Rattle.timeline.specs.Nearest.{nearest}
 use Rattle.timeline.proofs.Sorting.{sorted-sorts}
 use Rattle.timeline.proofs.Packed.{marks-le}
-
--- the least number of m above b, or T where there is none
-unfoldable pub nearest : ℕ → ℕ → List ℕ → ℕ
-nearest T b [] = T
-nearest T b (x ∷ xs) = pick (ltb b x) (min x (nearest T b xs)) (nearest T b xs)
 
 -- b and the cuts after it, each the nearest
 unfoldable pub cutsBy : ℕ → List ℕ → ℕ → ℕ → List ℕ

@@ -4,7 +4,7 @@ use mathlib.Core.Path.{_∙_, _≡_, ap, refl, subst, sym}
 use mathlib.Core.Logic.{_⊎_, inl, inr}
 use mathlib.Core.Bool.{false, true}
 use mathlib.Core.Option.{some}
-use mathlib.Core.List.{List, List·Memᴰ, List·Memᴰ·append-cases, List·Memᴰ·cases-cons, List·Memᴰ·head, List·Memᴰ·not-nil, List·Memᴰ·tail, Memᴰ·append-left, [], _++_, _∷_, append-nil}
+use mathlib.Core.List.{List, List·Memᴰ, List·Memᴰ·append-cases, List·Memᴰ·cases-cons, List·Memᴰ·head, List·Memᴰ·not-nil, List·Memᴰ·tail, Memᴰ·append-right, Memᴰ·append-left, [], _++_, _∷_, append-nil}
 use native.Mathlib.Omega.{arith}
 use native.Mathlib.Nat.{le-of-lt, not-suc-le-zero, zero-add}
 use lib.Dec.{leb, ltb}
@@ -200,23 +200,16 @@ honest-right cues T track ok house =
     (λ t m. elim (List·Memᴰ·append-cases (marks cues T) m) [ inl k ↦ marks-le cues T ok t k | inr k ↦ le-of-lt (house .below t k) ])
     (λ t m. List·Memᴰ·tail (List·Memᴰ·tail (Memᴰ·append-left (house .further) m))))
 
+-- a track that is cut where packing cuts, and at further ticks, is right
+further-right : (cues : List Cue) (T : ℕ) → Proper cues T → (further : List ℕ) → ((t : ℕ) → List·Memᴰ t further → t ≤ T) → Right cues T (stretches (heldOver cues) (sorted (further ++ marks cues T)))
+unfolding marks
+further-right cues T ok further below =
+    stretches-right cues T (heldOver cues) (over-is cues) (further ++ marks cues T)
+    (Memᴰ·append-right further (List·Memᴰ·head refl)) (Memᴰ·append-right further (List·Memᴰ·tail (List·Memᴰ·head refl)))
+    (λ t m. elim (List·Memᴰ·append-cases further m) [ inl k ↦ below t k | inr k ↦ marks-le cues T ok t k ])
+    (λ t m. Memᴰ·append-right further (List·Memᴰ·tail (List·Memᴰ·tail m)))
+
 -- the packed track is right
 pub packed-right : (cues : List Cue) (T : ℕ) → Proper cues T → Right cues T (packed cues T)
 unfolding packed
-packed-right cues T ok =
-    stretches-right cues T (heldOver cues) (over-is cues) (marks cues T)
-    (List·Memᴰ·head refl) (List·Memᴰ·tail (List·Memᴰ·head refl)) (marks-le cues T ok) (λ t m. List·Memᴰ·tail (List·Memᴰ·tail m))
-
--- the packed track is an honest house's, with no further cut
-pub packed-honest : (cues : List Cue) (T : ℕ) → Proper cues T → Honest cues T (packed cues T)
-unfolding packed marks
-packed-honest cues T ok =
-    let w = from-sorted cues T (heldOver cues) (over-is cues) (marks cues T) (List·Memᴰ·head refl) (List·Memᴰ·tail (List·Memᴰ·head refl)) (marks-le cues T ok) (λ t m. List·Memᴰ·tail (List·Memᴰ·tail m)) in
-    record {
-      further = [];
-      below = λ t m. absurd (List·Memᴰ·not-nil m);
-      cut =
-          ap (stretches (heldOver cues)) (w .1)
-          ∙ at-begin cues T (heldOver cues) (over-is cues) 0 (w .0) (w .2)
-          ∙ ap (stretches (λ b e. runningAt cues b)) (sym (w .1) ∙ ap sorted (sym (append-nil (marks cues T))));
-    }
+packed-right cues T ok = further-right cues T ok [] (λ t m. absurd (List·Memᴰ·not-nil m))

@@ -5,6 +5,7 @@ use mathlib.Core.Logic.{_⊎_, inl, inr}
 use mathlib.Core.Bool.{Bool, false, true}
 use mathlib.Core.Option.{Option, none, some}
 use mathlib.Core.List.{List, List·Memᴰ, List·Memᴰ·cases-cons, List·Memᴰ·head, List·Memᴰ·not-nil, List·Memᴰ·tail, [], _++_, _∷_}
+use native.Mathlib.Omega.{arith}
 use lib.Dec.{eqb, leb, ltb}
 use borrow.Author.Tests.{eqb-false, eqb-true, le-leb, le-ltb, leb-false, leb-true, lt-leb, lt-ltb, ltb-false, ltb-true}
 use Rattle.base.specs.Choice.{both, keep, sameList}
@@ -14,7 +15,7 @@ use Rattle.timeline.specs.Cues.{Body, Cue, Distinct, Pairs, chosen, runn
 -- laws of `runs`
 pub runs-yes : (c : Cue) (t : ℕ) → c .start ≤ t → t < c .end → runs c t ≡ true
 unfolding runs
-runs-yes c t h k = rw (le-leb (c .start) t h) (lt-ltb t (c .end) k)
+runs-yes c t h k = rw (le-leb (c .start) t h) (lt-ltb t _ (omega arith))
 
 pub runs-early : (c : Cue) (t : ℕ) → t < c .start → runs c t ≡ false
 unfolding runs
@@ -22,7 +23,7 @@ runs-early c t h = rw (lt-leb (c .start) t h)
 
 pub runs-late : (c : Cue) (t : ℕ) → c .end ≤ t → runs c t ≡ false
 unfolding runs
-runs-late c t h = by-test (leb (c .start) t) (λ e. rw e (le-ltb t (c .end) h)) (λ e. rw e)
+runs-late c t h = by-test (leb (c .start) t) (λ e. rw e (le-ltb t _ (omega arith))) (λ e. rw e)
 
 pub runs-is : (c : Cue) (t : ℕ) → runs c t ≡ true → (c .start ≤ t) × (t < c .end)
 unfolding runs

@@ -1,14 +1,15 @@
 -- Terms of the contracts of crates rows and gather: unpacking as the code does it. Whether a sample held a cue is told by where the cue ends so far, and their
 -- order by the least index that may come next. `joined-is` says that on positive durations this is `unpack`, so nobody has to believe it.
 use Prim.Native.Nat.{ℕ, suc, _+_}
+use mathlib.Core.Path.{_≡_}
 use mathlib.Core.Option.{Option, none, some}
 use mathlib.Core.List.{List, [], _∷_, _++_}
 use lib.Dec.{leb, ltb, eqb}
 use lib.ListN.{length, getD, set}
 use Rattle.base.specs.Choice.{pick}
 use Rattle.timeline.specs.Cues.{Body, Cue, sameBody}
-use Rattle.timeline.specs.Tracks.{Sample}
-use Rattle.timeline.specs.Unpacking.{noCue, fresh, till, indexOf, Unpacked, stopped, done}
+use Rattle.timeline.specs.Tracks.{Sample, Positive}
+use Rattle.timeline.specs.Unpacking.{noCue, fresh, till, indexOf, Unpacked, stopped, done, unpack}
 
 -- after a body: refused by a number, or the cues so far and the least index that may come next in the sample
 pub data Taking : Type 0 where
@@ -61,3 +62,7 @@ unpackFrom b i cs (s ∷ ss) = onSample (takeAll b (b + s .duration) cs 0 (s .he
 unfoldable pub joined : List Sample → Unpacked
 unfolding unpackFrom
 joined track = unpackFrom 0 0 [] track
+
+-- on positive durations this is unpacking
+abbrev pub JoinedIs : Type 0
+JoinedIs = (track : List Sample) → Positive track → joined track ≡ unpack track

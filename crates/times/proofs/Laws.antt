@@ -8,7 +8,7 @@ use lib.Dec.{leb, eqb}
 use borrow.Author.Tests.{leb-true, le-leb, eqb-true, eqb-false, eq-eqb, ne-eqb}
 use Rattle.base.specs.Choice.{both, within}
 use Rattle.base.proofs.Choice.{both-left, both-right, by-test, either, product}
-use Rattle.times.specs.Times.{tick, quotientUp, back, scaleAllowed, timelineAllowed, Limits}
+use Rattle.times.specs.Times.{tick, quotientUp, back, scaleAllowed, timelineAllowed, Limits, TickBack, BackTick}
 
 -- rounded up: enough, and no more than enough
 pub up-enough : (a n : ℕ) → 0 < n → a ≤ quotientUp a n * n
@@ -63,8 +63,7 @@ pub tick-back-ge : (scale t : ℕ) → 0 < scale → t ≤ tick scale (back scal
 unfolding tick
 tick-back-ge scale t h = omega (arith, back-enough scale t h)
 
--- at a scale of 1,000 or less a tick comes back as itself
-pub tick-back : (scale t : ℕ) → 0 < scale → scale ≤ 1000 → tick scale (back scale t) ≡ t
+pub tick-back : TickBack
 unfolding tick
 tick-back scale t h k =
     either (suc t * 1000) (back scale t * scale)
@@ -75,8 +74,7 @@ tick-back scale t h k =
     far zero e l = omega (arith, ap (λ (x : ℕ). x * scale) e)
     far (suc m) e l = omega (arith, ap (λ (x : ℕ). x * scale) e, back-least scale t m h (omega (arith, ap (λ (x : ℕ). x * scale) e)))
 
--- at a scale of 1,000 or more a time comes back as itself
-pub back-tick : (scale m : ℕ) → 1000 ≤ scale → back scale (tick scale m) ≡ m
+pub back-tick : BackTick
 unfolding tick
 back-tick scale m h =
     let l : 0 < scale = omega arith in

@@ -1,5 +1,6 @@
 -- Milliseconds and ticks. Document 01, 'Times'.
-use Prim.Native.Nat.{ℕ, _+_, _*_, _/_, _%_, _≤_}
+use Prim.Native.Nat.{ℕ, _+_, _*_, _/_, _%_, _≤_, _<_}
+use mathlib.Core.Path.{_≡_}
 use mathlib.Core.Bool.{Bool}
 use lib.Dec.{eqb}
 use Rattle.base.specs.Choice.{pick, both, within}
@@ -35,3 +36,11 @@ pub record Limits (scale T : ℕ) : Type 0 where
   pub time-most : T ≤ 359999999
   pub some-tick : 1 ≤ tick scale T
   pub tick-most : tick scale T ≤ 4294967295
+
+-- at a scale of 1,000 or less a tick comes back as itself; this and the next are proved in proofs/Laws.antt
+abbrev pub TickBack : Type 0
+TickBack = (scale t : ℕ) → 0 < scale → scale ≤ 1000 → tick scale (back scale t) ≡ t
+
+-- at a scale of 1,000 or more a time comes back as itself
+abbrev pub BackTick : Type 0
+BackTick = (scale m : ℕ) → 1000 ≤ scale → back scale (tick scale m) ≡ m

@@ -3,7 +3,6 @@ use Prim.Native.Nat.{ℕ, zero, suc, _+_, _*_, _/_, _%_, _≤_, _<_}
 use mathlib.Core.Path.{_≡_, refl, sym, ap, ap₂, _∙_}
 use mathlib.Core.List.{List, [], _∷_, _++_}
 use mathlib.Core.Bool.{Bool, true, false, not}
-use mathlib.Core.Logic.{_↔_}
 use native.Mathlib.Omega.{arith}
 use native.Mathlib.Nat.{le-refl}
 use native.Mathlib.Decide.{le-ind}
@@ -16,7 +15,7 @@ use Rattle.verdict.specs.Judgement.{_gives_at_, _then_, each}
 use Rattle.verdict.proofs.Judgement.{both-fine, not-given, each-fine, each-all}
 use Rattle.boxes.specs.Boxes.{part}
 use Rattle.wvtt.specs.Sample.{judgeSample}
-use Rattle.track.specs.Track.{rowCount, durationOf, sizeOf, offsetOf, bytesOf, placedAt, judgeRow, judgeTrack, Readable}
+use Rattle.track.specs.Track.{rowCount, durationOf, sizeOf, offsetOf, bytesOf, placedAt, judgeRow, judgeTrack, Readable, FineIff}
 
 pub offset-suc : (table : List ℕ) (i : ℕ) → offsetOf table (suc i) ≡ offsetOf table i + sizeOf table i
 unfolding offsetOf
@@ -102,6 +101,5 @@ readable-fine table samples r p =
     (record { lasts = p i l; sized = r .sized i l; inside = omega (arith, offset-most table (suc i) n l, r .used); reads = r .reads i l })) in
     track-is table samples (r .whole) (r .count) ∙ rw (all, le-ltb (offsetOf table n) (length samples) (omega (arith, r .used)))
 
--- the same in both directions
-pub fine-iff : (table samples : List ℕ) → (judgeTrack table samples ≡ Fine) ↔ (Readable table samples × ((i : ℕ) → i < rowCount table → 0 < durationOf table i))
+pub fine-iff : FineIff
 fine-iff table samples = (fine-readable table samples, λ w. readable-fine table samples (w .0) (w .1))

@@ -1,6 +1,7 @@
 -- Tracks: a table of 8-byte records (duration, sample size), and the samples back to back. Document 01, 'Tracks and packing'.
 use Prim.Native.Nat.{ℕ, zero, suc, _+_, _*_, _/_, _%_, _≤_, _<_}
 use mathlib.Core.Path.{_≡_}
+use mathlib.Core.Logic.{_↔_}
 use mathlib.Core.List.{List}
 use mathlib.Core.Bool.{not}
 use lib.Dec.{ltb, eqb}
@@ -73,3 +74,9 @@ pub record Readable (table samples : List ℕ) : Type 0 where
   pub sized : (i : ℕ) → i < rowCount table → 0 < sizeOf table i
   pub used : offsetOf table (rowCount table) ≡ length samples
   pub reads : (i : ℕ) → i < rowCount table → judgeSample (bytesOf table samples i) ≡ Fine
+
+-- the judgement finds no fault exactly in the readable tracks whose durations are positive
+abbrev pub FineIff : Type 0
+FineIff =
+    (table samples : List ℕ)
+    → (judgeTrack table samples ≡ Fine) ↔ (Readable table samples × ((i : ℕ) → i < rowCount table → 0 < durationOf table i))

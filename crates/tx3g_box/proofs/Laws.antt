@@ -6,14 +6,14 @@ use native.Mathlib.Omega.{arith}
 use native.Mathlib.Nat.{add-sub-cancel-left}
 use lib.ListN.{length, take, drop, length-take, length-drop}
 use Rattle.bodies.specs.declared.Body.{Body}
-use Rattle.bodies.specs.declared.Body.the-variants.{At, Nowhere as NoBody}
+use Rattle.bodies.specs.declared.Body.the-variants.{At, Refused as Stopped, Nowhere as NoBody}
 use Rattle.tx3g_contents.specs.Kinds.{tbox, single, known}
 use Rattle.tx3g_contents.proofs.Laws.{end-tbox}
 use Rattle.tx3g_entry.proofs.Laws.{entry-fine}
 use Rattle.tx3g_sample.specs.declared.Reading.{Reading}
 use Rattle.tx3g_sample.specs.declared.Reading.the-variants.{Good, BadEntry, BadSample}
 use Rattle.tx3g_sample.specs.Sample.{readSample}
-use Rattle.tx3g_sample.proofs.Laws.{read-good, content-lies}
+use Rattle.tx3g_sample.proofs.Laws.{read-good, content-lies, boxes-whole}
 use Rattle.tx3g_box.specs.declared.Spot.the-variants.{Sample, Entry}
 use Rattle.tx3g_box.specs.TextBox.{boxesOf, spotIn, spotBy, spotOf, bytesAt}
 
@@ -30,6 +30,7 @@ sample-fits e s b h = go (readSample e s) refl h
       where
         body : (t : Body) → boxesOf s ≡ t → spotIn t ≡ Sample b → b + 8 ≤ length s
         body (At c) x y = let z : c ≡ b = cc in body-lies e s n b q (x ∙ ap At z)
+        body (Stopped r) x y = let z : _≡_ {A = ℕ} 0 1 = cc in absurd (omega arith)
         body NoBody x y = let z : _≡_ {A = ℕ} 0 1 = cc in absurd (omega arith)
     go (BadEntry r) q u = let z : _≡_ {A = ℕ} 0 1 = cc in absurd (omega arith)
     go (BadSample r) q u = let z : _≡_ {A = ℕ} 0 1 = cc in absurd (omega arith)
@@ -49,9 +50,10 @@ eight s b = ap (λ (k : ℕ). take k (drop b s)) (add-sub-cancel-left b 8)
 
 -- the box of a sample without fault has eight bytes
 pub box-long : (e s : List ℕ) (n : ℕ) → readSample e s ≡ Good n → length (bytesAt e s (spotOf e s)) ≡ 8
-unfolding spotOf
+unfolding spotOf boxesOf
 box-long e s n h = rw h (go (boxesOf s) refl)
   where
     go : (t : Body) → boxesOf s ≡ t → length (bytesAt e s (spotIn t)) ≡ 8
     go (At b) q = let w = body-lies e s n b h q in rw (length-take 8 (drop b s), length-drop b s) (omega arith)
+    go (Stopped r) q = absurd (boxes-whole e n s tbox r (read-good e s n h .modifiers) q)
     go NoBody q = let w = entry-fine e (read-good e s n h .entry) .long in rw (length-take 8 (drop 26 e), length-drop 26 e) (omega arith)

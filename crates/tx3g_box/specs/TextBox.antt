@@ -4,7 +4,7 @@ use mathlib.Core.List.{List, []}
 use lib.ListN.{length, take, drop}
 use Rattle.boxes.specs.Boxes.{boxesIn}
 use Rattle.bodies.specs.declared.Body.{Body}
-use Rattle.bodies.specs.declared.Body.the-variants.{At, Nowhere as NoBody}
+use Rattle.bodies.specs.declared.Body.the-variants.{At, Refused as Stopped, Nowhere as NoBody}
 use Rattle.bodies.specs.Bodies.{bodyOf}
 use Rattle.tx3g_contents.specs.Kinds.{tbox}
 use Rattle.tx3g_sample.specs.declared.Reading.{Reading}
@@ -17,8 +17,10 @@ use Rattle.tx3g_box.specs.declared.Spot.the-variants.{Sample, Entry, Now
 unfoldable pub boxesOf : List ℕ → Body
 boxesOf s = bodyOf tbox (boxesIn s (textEnd s) (length s))
 
+-- by that place; a refused header, which a sample without fault has not, leaves none
 abbrev pub spotIn : Body → Spot
 spotIn (At b) = Sample b
+spotIn (Stopped r) = Nowhere
 spotIn NoBody = Entry
 
 abbrev pub spotBy : List ℕ → Reading → Spot

@@ -24,6 +24,7 @@ fn find_within(e: &[u8], s: &[u8], characters: usize) -> Spot
     let t = find_body(s, from, TBOX);
     match t {
         Body::At(body) => Spot::Sample(body),
+        Body::Refused(_) => Spot::Nowhere,
         Body::Nowhere => Spot::Entry,
     }
 }

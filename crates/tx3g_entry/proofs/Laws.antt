@@ -1,6 +1,6 @@
 -- What a sample entry without fault says: it has the fixed bytes, and its fonts lie within it.
 use Prim.Native.Nat.{ℕ, _≤_}
-use mathlib.Core.Path.{_≡_, refl, sym, _∙_}
+use mathlib.Core.Path.{_≡_, refl, _∙_}
 use mathlib.Core.List.{List, []}
 use mathlib.Core.Bool.{not}
 use native.Mathlib.Omega.{arith}
@@ -12,8 +12,8 @@ use Rattle.verdict.proofs.Judgement.{both-fine}
 use Rattle.fields.specs.BigEndian.{be}
 use Rattle.boxes.specs.Boxes.{judged, among}
 use Rattle.bodies.specs.declared.Body.{Body}
-use Rattle.bodies.specs.declared.Body.the-variants.{At, Nowhere}
-use Rattle.bodies.proofs.Laws.{judged-found}
+use Rattle.bodies.specs.declared.Body.the-variants.{At, Refused as Stopped, Nowhere}
+use Rattle.bodies.proofs.Laws.{judged-found, NoBody}
 use Rattle.entry_head.specs.Head.{judgeHead}
 use Rattle.entry_head.proofs.Laws.{head-fixed}
 use Rattle.tx3g_fonts.specs.Fonts.{fontAt, judgeFonts}
@@ -42,6 +42,7 @@ pub record Good (e : List ℕ) : Type 0 where
 
 end-fine : (e : List ℕ) (t : Body) → endEntry e t ≡ Fine → (b : ℕ) × (t ≡ At b)
 end-fine e Nowhere h = let z : _≡_ {A = ℕ} 0 1 = cc in absurd (omega arith)
+end-fine e (Stopped r) h = let z : _≡_ {A = ℕ} 0 1 = cc in absurd (omega arith)
 end-fine e (At b) h = (b, refl)
 
 pub entry-fine : (e : List ℕ) → judgeEntry e ≡ Fine → Good e
@@ -64,8 +65,11 @@ fonts-lie e b h q =
     let w = both-fine (judgeFixed e) (judged (inEntry e) nothingMore [] (entryBoxes e) then endEntry e (fontsOf e)) h in
     boxes-fine e b (both-fine (judged (inEntry e) nothingMore [] (entryBoxes e)) (endEntry e (fontsOf e)) (w .1) .0) q
 
-pub fonts-there : {X : Type 0} (e : List ℕ) (t : Body) → judgeEntry e ≡ Fine → t ≡ fontsOf e → t ≡ Nowhere → X
-fonts-there e t h q n = let f = entry-fine e h .found in let z : _≡_ {A = ℕ} 0 1 = clash (entry-fine e h .fonts) (sym f ∙ sym q ∙ n) in absurd (omega arith)
+-- and they are found
+pub fonts-there : {X : Type 0} (e : List ℕ) (t : Body) → judgeEntry e ≡ Fine → t ≡ fontsOf e → NoBody t → X
+fonts-there e t h q n = absurd (go t (q ∙ entry-fine e h .found) n)
   where
-    clash : (b : ℕ) → At b ≡ Nowhere → _≡_ {A = ℕ} 0 1
-    clash b e = cc
+    go : {b : ℕ} (u : Body) → u ≡ At b → NoBody u → ⊥
+    go (At c) p m = m
+    go (Stopped r) p m = let z : _≡_ {A = ℕ} 0 1 = cc in absurd (omega arith)
+    go Nowhere p m = let z : _≡_ {A = ℕ} 0 1 = cc in absurd (omega arith)

@@ -3,17 +3,17 @@
 use Prim.Native.Nat.{ℕ}
 use mathlib.Core.List.{List, []}
 use mathlib.Core.Bool.{Bool, not}
-use lib.Dec.{ltb, eqb}
+use lib.Dec.{eqb}
 use lib.ListN.{length}
-use Rattle.base.specs.Choice.{pick, both, one-of}
+use Rattle.base.specs.Choice.{pick, both}
 use Rattle.verdict.specs.declared.Verdict.{Verdict}
-use Rattle.verdict.specs.declared.Verdict.the-variants.{Fine}
+use Rattle.verdict.specs.declared.Verdict.the-variants.{Fine, Refused}
 use Rattle.verdict.specs.Judgement.{_gives_at_, _then_, refuse}
 use Rattle.fields.specs.BigEndian.{be}
 use Rattle.boxes.specs.Boxes.{Boxes, boxesIn, judged, among}
 use Rattle.entry_head.specs.Head.{judgeHead}
 use Rattle.bodies.specs.declared.Body.{Body}
-use Rattle.bodies.specs.declared.Body.the-variants.{At, Nowhere}
+use Rattle.bodies.specs.declared.Body.the-variants.{At, Refused as Stopped, Nowhere}
 use Rattle.bodies.specs.Bodies.{bodyOf}
 use Rattle.signed.specs.Signed.{ordered, justified}
 use Rattle.tx3g_fonts.specs.Fonts.{hasFont, judgeFonts}
@@ -56,6 +56,7 @@ fontsOf e = bodyOf ftab (entryBoxes e)
 -- at the end of an entry: no `ftab` (4); the default font is not in it (8)
 abbrev pub endEntry : List ℕ → Body → Verdict
 endEntry e Nowhere = refuse 4 0
+endEntry e (Stopped r) = Refused r
 endEntry e (At b) = not (hasFont e b (be 2 e 38)) gives 8 at 0
 
 -- the verdict on a sample entry

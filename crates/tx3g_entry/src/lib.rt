@@ -17,10 +17,10 @@ ghost use mathlib.Core.Path.{_≡_};
 ghost use mathlib.Core.List.{List, []};
 ghost use Prim.Native.Nat.{ℕ, _≤_};
 ghost use lib.ListN.{length};
-ghost use lib.Dec.{eqb};
-ghost use Rattle.base.specs.Choice.{one-of};
+ghost use Rattle.fields.specs.BigEndian.{be};
 ghost use Rattle.boxes.specs.Boxes.{judged, among};
-ghost use Rattle.tx3g_entry.specs.Entry.{ftab, judgeFixed, justifiedEntry, plainEntry, inEntry, nothingMore, entryBoxes, fontsOf, judgeEntry};
+ghost use Rattle.tx3g_fonts.specs.Fonts.{fontAt};
+ghost use Rattle.tx3g_entry.specs.Entry.{ftab, judgeFixed, justifiedEntry, plainEntry, inEntry, nothingMore, entryBoxes, fontsOf, endEntry, judgeEntry};
 
 pub const TX3G: u32 = 0x74783367;
 
@@ -110,6 +110,17 @@ pub fn find_fonts(e: &[u8]) -> Body
     find_body(e, 46, FTAB)
 }
 
+// The default font, beside the fonts that stand at `fonts`.
+fn judge_default(e: &[u8], fonts: usize) -> Verdict
+    requires { ⌜ (46 ≤ length (now e)) × (fontAt (now e) fonts (be 2 (now e) fonts) ≤ length (now e)) ⌝ }
+    ensures { λ r. ⌜ r ≡ endEntry (now (e .entry)) (Body.At fonts) ⌝ }
+{
+    if has_font(e, fonts, get16(e, 38)) {
+        return Verdict::Fine;
+    }
+    refused(8, 0)
+}
+
 // The verdict on a sample entry.
 pub fn judge_entry(e: &[u8]) -> Verdict
     ensures { λ r. ⌜ r ≡ judgeEntry (now (e .entry)) ⌝ }
@@ -122,12 +133,9 @@ pub fn judge_entry(e: &[u8]) -> Verdict
     let Verdict::Fine = w else {
         return w;
     };
-    let t = find_fonts(e);
-    let Body::At(fonts) = t else {
-        return refused(4, 0);
-    };
-    if has_font(e, fonts, get16(e, 38)) {
-        return Verdict::Fine;
+    match find_fonts(e) {
+        Body::At(fonts) => judge_default(e, fonts),
+        Body::Refused(why) => Verdict::Refused(why),
+        Body::Nowhere => refused(4, 0),
     }
-    refused(8, 0)
 }

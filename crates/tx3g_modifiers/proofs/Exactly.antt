@@ -1,6 +1,6 @@
 -- The modifiers handed out are exactly the modifier boxes of a sample without fault, from left to right.
 use Prim.Native.Nat.{ℕ, zero, suc, _-_, _<_}
-use mathlib.Core.Path.{_≡_, refl}
+use mathlib.Core.Path.{_≡_, refl, sym}
 use mathlib.Core.List.{List, [], _∷_}
 use mathlib.Core.Bool.{Bool, true, false}
 use native.Mathlib.Omega.{arith}
@@ -8,7 +8,8 @@ use native.Mathlib.Nat.{not-suc-le-zero}
 use lib.ListN.{length}
 use borrow.Author.Tests.{eq-eqb, le-ltb}
 use Rattle.base.specs.Choice.{pick, keep}
-use Rattle.verdict.specs.declared.Verdict.the-variants.{Fine}
+use Rattle.verdict.specs.declared.Verdict.{Verdict}
+use Rattle.verdict.specs.declared.Verdict.the-variants.{Fine, Refused}
 use Rattle.verdict.proofs.Judgement.{both-fine}
 use Rattle.boxes.specs.declared.Step.{Step}
 use Rattle.boxes.specs.declared.Step.the-variants.{Box, Refused as Stopped, End as Ended}
@@ -21,19 +22,23 @@ use Rattle.tx3g_sample.specs.declared.Reading.the-variants.{Good}
 use Rattle.tx3g_sample.specs.Sample.{textEnd, inSample, modifiersOf, fontsIn, judgeModifiers, readSample}
 use Rattle.tx3g_sample.proofs.Laws.{read-good, text-fine, count-past, box-filled}
 use Rattle.tx3g_modifiers.specs.declared.Modifier.{Modifier}
-use Rattle.tx3g_modifiers.specs.declared.Held.the-variants.{One, End}
+use Rattle.tx3g_modifiers.specs.declared.Held.the-variants.{One, Refused as Broken, End}
 use Rattle.tx3g_modifiers.specs.Modifiers.{boxesFrom, whole, modifierOf, nextModifier, modifiersIn, knownIn}
+use Rattle.tx3g_modifiers.specs.Terms.{ended}
+use Rattle.tx3g_modifiers.specs.Exactly.{NextMeans, Exactly}
 
 -- no modifier is handed out: there is none
-pub none-left : (s : List ℕ) (bs : Boxes) → nextModifier s bs ≡ End → modifiersIn s bs ≡ []
+none-left : (s : List ℕ) (bs : Boxes) (v : Verdict) → nextModifier s bs ≡ ended v → modifiersIn s bs ≡ []
 unfolding nextModifier modifiersIn
-none-left s clean h = refl
-none-left s (broken r) h = refl
-none-left s (box p k b n rest) h = go (whole s k b n) h (λ q. none-left s rest q)
+none-left s clean v h = refl
+none-left s (broken r) v h = refl
+none-left s (box p k b n rest) v h = go (whole s k b n) v h (λ q. none-left s rest v q)
   where
-    go : (t : Bool) → pick t (One (modifierOf s k b) n) (nextModifier s rest) ≡ End → (nextModifier s rest ≡ End → modifiersIn s rest ≡ []) → keep t (modifierOf s k b) (modifiersIn s rest) ≡ []
-    go true q f = let z : _≡_ {A = ℕ} 0 1 = cc in absurd (omega arith)
-    go false q f = f q
+    go : (t : Bool) (u : Verdict) → pick t (One (modifierOf s k b) n) (nextModifier s rest) ≡ ended u → (nextModifier s rest ≡ ended u → modifiersIn s rest ≡ [])
+        → keep t (modifierOf s k b) (modifiersIn s rest) ≡ []
+    go true Fine q f = let z : _≡_ {A = ℕ} 0 1 = cc in absurd (omega arith)
+    go true (Refused r) q f = let z : _≡_ {A = ℕ} 0 1 = cc in absurd (omega arith)
+    go false u q f = f q
 
 one-same : (m m′ : Modifier) (n n′ : ℕ) → One m n ≡ One m′ n′ → (m ≡ m′) × (n ≡ n′)
 one-same m m′ n n′ e = (cc, cc)
@@ -57,8 +62,13 @@ module _ (s : List ℕ) (end : ℕ) (m : Modifier) (n : ℕ) where
       go (Stopped r) e q rest = let z : _≡_ {A = ℕ} 0 1 = cc in absurd (omega arith)
       go Ended e q rest = let z : _≡_ {A = ℕ} 0 1 = cc in absurd (omega arith)
 
-  pub handed-out : (at : ℕ) → nextModifier s (boxesIn s at end) ≡ One m n → modifiersIn s (boxesIn s at end) ≡ m ∷ modifiersIn s (boxesIn s n end)
+  handed-out : (at : ℕ) → nextModifier s (boxesIn s at end) ≡ One m n → modifiersIn s (boxesIn s at end) ≡ m ∷ modifiersIn s (boxesIn s n end)
   handed-out at h = first-left (suc (end - at)) at (omega arith) h
+
+pub next-means : NextMeans
+next-means s from (One m n) e = handed-out s (length s) m n from (sym e)
+next-means s from (Broken r) e = none-left s (boxesIn s from (length s)) (Refused r) (sym e)
+next-means s from End e = none-left s (boxesIn s from (length s)) Fine (sym e)
 
 whole-known : (s : List ℕ) (k b n : ℕ) → known k ≡ true → contentEnd s k b ≡ n → whole s k b n ≡ true
 unfolding whole
@@ -83,7 +93,7 @@ filled-all fonts c s before (box p k b n rest) h =
     same false e q r = rw (whole-unknown s k b n e, e, r)
 
 -- a sample without fault: the modifiers from the end of its text on are its modifier boxes
-pub from-text : (e s : List ℕ) (n : ℕ) → readSample e s ≡ Good n → boxesFrom s ≡ textEnd s
+from-text : (e s : List ℕ) (n : ℕ) → readSample e s ≡ Good n → boxesFrom s ≡ textEnd s
 unfolding boxesFrom
 from-text e s n h = let w = text-fine s (read-good e s n h .text) in let k = count-past s in rw (le-ltb (length s) 2 (omega arith))
 
@@ -91,5 +101,5 @@ all-known : (e s : List ℕ) (n : ℕ) → judgeModifiers e n s ≡ Fine → mod
 unfolding judgeModifiers modifiersOf
 all-known e s n q = filled-all (fontsIn e (fontsOf e)) n s [] (boxesIn s (textEnd s) (length s)) q
 
-pub exactly : (e s : List ℕ) (n : ℕ) → readSample e s ≡ Good n → modifiersIn s (boxesIn s (boxesFrom s) (length s)) ≡ knownIn s (boxesIn s (textEnd s) (length s))
+pub exactly : Exactly
 exactly e s n h = rw (from-text e s n h) (all-known e s n (read-good e s n h .modifiers))

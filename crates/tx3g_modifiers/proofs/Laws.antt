@@ -12,14 +12,15 @@ use Rattle.verdict.specs.declared.Verdict.{Verdict}
 use Rattle.verdict.specs.declared.Verdict.the-variants.{Fine, Refused}
 use Rattle.boxes.specs.declared.Step.{Step}
 use Rattle.boxes.specs.declared.Step.the-variants.{Box, Refused as Stopped, End as Ended}
-use Rattle.boxes.specs.Boxes.{stepAt, onStep, boxesIn}
+use Rattle.boxes.specs.Boxes.{stepAt, stoppedBy, onStep, boxesIn}
 use Rattle.boxes.proofs.Laws.{boxes-at, boxes-box, NoBox}
 use Rattle.bodies.specs.Bodies.{filled}
 use Rattle.bodies.proofs.Filled.{filled-fine}
 use Rattle.tx3g_contents.specs.Kinds.{known}
 use Rattle.tx3g_contents.specs.Contents.{contentEnd}
-use Rattle.tx3g_modifiers.specs.declared.Held.the-variants.{One, End}
+use Rattle.tx3g_modifiers.specs.declared.Held.the-variants.{One}
 use Rattle.tx3g_modifiers.specs.Modifiers.{whole, modifierOf, nextModifier}
+use Rattle.tx3g_modifiers.specs.Terms.{ended}
 
 -- a known box is whole if its content fills it
 pub whole-filled : (s : List ℕ) (p k b n : ℕ) (v : Verdict) → known k ≡ true → v ≡ filled p (contentEnd s k b) n → v ≡ Fine → whole s k b n ≡ true
@@ -51,11 +52,11 @@ unfolding whole
 whole-end s k b n h = eqb-true (contentEnd s k b) n (both-right (known k) (eqb (contentEnd s k b) n) h)
 
 -- the loop: no further box, a box that is handed out, one that is passed over
-pub next-stop : (s : List ℕ) (at end : ℕ) (t : Step) → stepAt s at end ≡ t → NoBox t → nextModifier s (boxesIn s at end) ≡ End
+pub next-stop : (s : List ℕ) (at end : ℕ) (t : Step) → stepAt s at end ≡ t → NoBox t → nextModifier s (boxesIn s at end) ≡ ended (stoppedBy t)
 unfolding nextModifier
 next-stop s at end t e h = rw (boxes-at s at end, e) (go t h)
   where
-    go : (u : Step) → NoBox u → nextModifier s (onStep u at (λ n. boxesIn s n end)) ≡ End
+    go : (u : Step) → NoBox u → nextModifier s (onStep u at (λ n. boxesIn s n end)) ≡ ended (stoppedBy u)
     go (Box k b n) h = absurd h
     go (Stopped r) h = refl
     go Ended h = refl

@@ -1,1 +1,3 @@
 pub mod Modifiers
+pub mod Exactly
+pub mod Terms

@@ -13,7 +13,7 @@ use Rattle.tx3g_sample.specs.Sample.{textEnd}
 use Rattle.tx3g_modifiers.specs.declared.Modifier.{Modifier}
 use Rattle.tx3g_modifiers.specs.declared.Modifier.the-variants.{Styles, Highlight, Blink, Colour, Karaoke, Delay, Link, TextBox, Wrap}
 use Rattle.tx3g_modifiers.specs.declared.Held.{Held}
-use Rattle.tx3g_modifiers.specs.declared.Held.the-variants.{One, End}
+use Rattle.tx3g_modifiers.specs.declared.Held.the-variants.{One, Refused as Stopped, End}
 
 -- where the boxes begin; where the byte count is missing there are none
 unfoldable pub boxesFrom : List ℕ → ℕ
@@ -46,11 +46,12 @@ modifierOf s k b =
     (pick (eqb k twrp) (Wrap (be 1 s b))
     (plainOf s k b)))))
 
--- the first modifier among boxes, with the place after it
+-- The first modifier among boxes, with the place after it; or the refusal of a header before it. What a sample holds that is refused for another
+-- reason is free: a modifier box that its content does not fill is passed over.
 unfoldable pub nextModifier : List ℕ → Boxes → Held
 unfolding whole modifierOf
 nextModifier s clean = End
-nextModifier s (broken r) = End
+nextModifier s (broken r) = Stopped r
 nextModifier s (box p k b n rest) = pick (whole s k b n) (One (modifierOf s k b) n) (nextModifier s rest)
 
 -- all of them

@@ -1,6 +1,7 @@
 // The modifiers of a `tx3g` sample, one by one from left to right.
 use boxes::Step;
 use boxes::step_at;
+use boxes::stopped_by;
 use fields::get8;
 use fields::get16;
 use fields::get32;
@@ -15,13 +16,15 @@ use tx3g_contents::TWRP;
 use tx3g_contents::is_known;
 use tx3g_contents::judge_content;
 use tx3g_sample::text_end;
+use verdict::Refusal;
 use verdict::Verdict;
 ghost use mathlib.Core.Path.{_≡_};
 ghost use Prim.Native.Nat.{_+_, _≤_};
 ghost use lib.ListN.{length};
-ghost use Rattle.boxes.specs.Boxes.{boxesIn};
+ghost use Rattle.boxes.specs.Boxes.{boxesIn, stoppedBy};
 ghost use Rattle.tx3g_contents.specs.Contents.{linkEnd, contentEnd};
 ghost use Rattle.tx3g_modifiers.specs.Modifiers.{boxesFrom, whole, linkOf, plainOf, modifierOf, nextModifier};
+ghost use Rattle.tx3g_modifiers.specs.Terms.{ended};
 
 // Where bytes stand in a sample: from `from` to before `end`.
 pub struct Part {
@@ -74,9 +77,10 @@ pub enum Modifier {
     },
 }
 
-// The next modifier with the place after it, or none.
+// The next modifier with the place after it, the refusal of a header, or none.
 pub enum Held {
     One { modifier: Modifier, next: usize },
+    Refused(Refusal),
     End,
 }
 
@@ -190,6 +194,16 @@ fn read_modifier(s: &[u8], kind: u32, body: usize) -> Modifier
     read_plain(s, kind, body)
 }
 
+// The answer where a step gives no box.
+fn held_end(t: Step) -> Held
+    ensures { λ r. ⌜ r ≡ ended (stoppedBy t) ⌝ }
+{
+    match stopped_by(t) {
+        Verdict::Fine => Held::End,
+        Verdict::Refused(why) => Held::Refused(why),
+    }
+}
+
 // The first modifier of a sample from a place on where a box begins.
 pub fn next_modifier(s: &[u8], from: usize) -> Held
     ensures { λ r. ⌜ r ≡ nextModifier (now (s .entry)) (boxesIn (now (s .entry)) from (length (now (s .entry)))) ⌝ }
@@ -199,7 +213,7 @@ pub fn next_modifier(s: &[u8], from: usize) -> Held
     loop {
         let t = step_at(s, at, end);
         let Step::Box { kind, body, next } = t else {
-            return Held::End;
+            return held_end(t);
         };
         if is_whole(s, at, kind, body, next) {
             let modifier = read_modifier(s, kind, body);

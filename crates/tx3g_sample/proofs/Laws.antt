@@ -13,10 +13,10 @@ use Rattle.verdict.specs.Judgement.{_gives_at_, _then_, refuse}
 use Rattle.verdict.proofs.Judgement.{both-fine}
 use Rattle.characters.specs.declared.Counted.the-variants.{Characters, Bad}
 use Rattle.verdict.specs.declared.Refusal.{Refusal}
-use Rattle.bodies.specs.declared.Body.the-variants.{At}
+use Rattle.bodies.specs.declared.Body.the-variants.{At, Refused as Stopped}
 use Rattle.bodies.specs.Bodies.{bodyOf, filled}
 use Rattle.bodies.proofs.Filled.{fine-false, filled-fine}
-use Rattle.bodies.proofs.Laws.{judged-found}
+use Rattle.bodies.proofs.Laws.{judged-found, judged-whole}
 use Rattle.base.specs.Choice.{pick, both}
 use Rattle.boxes.specs.Boxes.{boxesIn, among}
 use Rattle.tx3g_contents.specs.Kinds.{single, known}
@@ -26,7 +26,8 @@ use Rattle.tx3g_fonts.specs.Fonts.{hasFont}
 use Rattle.tx3g_entry.specs.Entry.{nothingMore, fontsOf, judgeEntry}
 use Rattle.tx3g_sample.specs.declared.Reading.the-variants.{Good}
 use Rattle.tx3g_sample.specs.declared.Text.the-variants.{Whole, Bad as BadText}
-use Rattle.tx3g_sample.specs.Sample.{textEnd, counted, isBad, charactersIn, judgeText, textRead, inSample, modifiersOf, fontsIn, judgeModifiers, judgeSample, answerOf, readSample}
+use Rattle.tx3g_sample.specs.Sample.{textEnd, counted, isBad, charactersIn, judgeText, inSample, modifiersOf, fontsIn, judgeModifiers, judgeSample, answerOf, readSample}
+use Rattle.tx3g_sample.specs.Terms.{textRead}
 
 -- the text past the bytes, a text that is bad, and one that is not
 pub text-past : (s : List ℕ) → length s < textEnd s → judgeText s ≡ refuse 1 0
@@ -104,6 +105,11 @@ unfolding judgeModifiers modifiersOf
 content-lies e c s k b h m q =
     let j = judged-found (inSample (fontsIn e (fontsOf e)) c s) nothingMore s (length s) k b (textEnd s) [] m q in
     rw (box-filled (fontsIn e (fontsOf e)) c s (j .kinds) (j .place) k b (j .next) h (j .fine)) (j .lies .inside)
+
+-- and no header among them is refused
+pub boxes-whole : (e : List ℕ) (c : ℕ) (s : List ℕ) (k : ℕ) (r : Refusal) → judgeModifiers e c s ≡ Fine → bodyOf k (boxesIn s (textEnd s) (length s)) ≡ Stopped r → ⊥
+unfolding judgeModifiers modifiersOf
+boxes-whole e c s k r m q = judged-whole (inSample (fontsIn e (fontsOf e)) c s) nothingMore k r (boxesIn s (textEnd s) (length s)) [] m q
 
 -- a sample without fault has its byte count
 pub read-long : (e s : List ℕ) (n : ℕ) → readSample e s ≡ Good n → 2 ≤ length s

@@ -14,15 +14,13 @@ use Rattle.characters.specs.declared.Counted.the-variants.{Characters, Bad}
 use Rattle.characters.specs.Characters.{charactersOf}
 use Rattle.boxes.specs.Boxes.{boxesIn, judged, among, part}
 use Rattle.bodies.specs.declared.Body.{Body}
-use Rattle.bodies.specs.declared.Body.the-variants.{At, Nowhere}
+use Rattle.bodies.specs.declared.Body.the-variants.{At, Refused as Stopped, Nowhere}
 use Rattle.tx3g_fonts.specs.Fonts.{hasFont}
 use Rattle.tx3g_entry.specs.Entry.{nothingMore, fontsOf, judgeEntry}
 use Rattle.tx3g_contents.specs.Kinds.{single, known}
 use Rattle.tx3g_rules.specs.Rules.{judgeBody}
 use Rattle.tx3g_sample.specs.declared.Reading.{Reading}
 use Rattle.tx3g_sample.specs.declared.Reading.the-variants.{Good, BadEntry, BadSample}
-use Rattle.tx3g_sample.specs.declared.Text.{Text}
-use Rattle.tx3g_sample.specs.declared.Text.the-variants.{Whole, Bad as BadText}
 
 -- where the text ends, and the boxes begin; past the bytes also where the byte count is missing
 unfoldable pub textEnd : List ℕ → ℕ
@@ -50,10 +48,6 @@ unfoldable pub judgeText : List ℕ → Verdict
 unfolding textEnd counted
 judgeText s = ltb (length s) (textEnd s) gives 1 at 0 then isBad (counted s) gives 6 at 0
 
-abbrev pub textRead : Verdict → ℕ → Text
-textRead Fine n = Whole n
-textRead (Refused r) n = BadText r
-
 -- a box of a sample, with the kinds before it; other boxes are passed over
 unfoldable pub inSample : (ℕ → Bool) → ℕ → List ℕ → List ℕ → ℕ → ℕ → ℕ → ℕ → Verdict
 inSample fonts c s before p k b n = both (single k) (among k before) gives 3 at p then pick (known k) (judgeBody fonts c s p k b n) Fine
@@ -63,9 +57,10 @@ unfoldable pub modifiersOf : (ℕ → Bool) → ℕ → List ℕ → ℕ → Ver
 unfolding inSample
 modifiersOf fonts c s from = judged (inSample fonts c s) nothingMore [] (boxesIn s from (length s))
 
--- which fonts an entry has
+-- which fonts an entry has; one without fault has its `ftab`
 abbrev pub fontsIn : List ℕ → Body → ℕ → Bool
 fontsIn e Nowhere id = false
+fontsIn e (Stopped r) id = false
 fontsIn e (At b) id = hasFont e b id
 
 -- the modifier boxes of a sample of c characters

@@ -26,7 +26,8 @@ ghost use Rattle.fields.specs.BigEndian.{be};
 ghost use Rattle.tx3g_fonts.specs.Fonts.{fontAt, hasFont};
 ghost use Rattle.tx3g_entry.specs.Entry.{judgeEntry};
 ghost use Rattle.tx3g_seen.specs.Seen.{Marks};
-ghost use Rattle.tx3g_sample.specs.Sample.{textEnd, charactersIn, judgeText, textRead, inSample, judgeModifiers, modifiersOf, judgeSample, answerOf, readSample, verdictOf};
+ghost use Rattle.tx3g_sample.specs.Sample.{textEnd, charactersIn, judgeText, inSample, judgeModifiers, modifiersOf, judgeSample, answerOf, readSample, verdictOf};
+ghost use Rattle.tx3g_sample.specs.Terms.{textRead};
 
 // What a sample and its entry are read as.
 pub enum Reading {
@@ -128,12 +129,11 @@ fn judge_boxes(e: &[u8], s: &[u8], characters: usize) -> Verdict
     requires { ⌜ (judgeEntry (now e) ≡ Fine) × (2 ≤ length (now s)) ⌝ }
     ensures { λ r. ⌜ r ≡ judgeModifiers (now (e .entry)) characters (now (s .entry)) ⌝ }
 {
-    let t = find_fonts(e);
-    let Body::At(fonts) = t else {
-        return Verdict::Fine;
-    };
-    let from = text_end(s);
-    judge_modifiers(e, fonts, s, from, characters)
+    match find_fonts(e) {
+        Body::At(fonts) => judge_modifiers(e, fonts, s, text_end(s), characters),
+        Body::Refused(why) => Verdict::Refused(why),
+        Body::Nowhere => Verdict::Fine,
+    }
 }
 
 fn read_boxes(e: &[u8], s: &[u8], characters: usize) -> Reading

@@ -15,7 +15,7 @@ use Rattle.tx3g_entry.proofs.Laws.{entry-fine}
 use Rattle.tx3g_sample.specs.declared.Reading.the-variants.{Good}
 use Rattle.tx3g_sample.specs.Sample.{readSample}
 use Rattle.tx3g_sample.proofs.Laws.{read-good, content-lies}
-use Rattle.tx3g_style.specs.Style.{styleIn, holdsAt, holds, defaultStyle, styleOr, inForce, stylesOf}
+use Rattle.tx3g_style.specs.Style.{styleIn, holdsAt, holds, defaultStyle, styleOr, styleAmong, stylesOf}
 
 -- no style before the i-th holds character k
 abbrev pub NoneBefore : List ℕ → ℕ → ℕ → ℕ → Type 0
@@ -25,11 +25,11 @@ pub holds-at : (s : List ℕ) (b k i : ℕ) (t : Bool) → t ≡ holdsAt s k (b 
 unfolding holds styleAt
 holds-at s b k i t e = sym e
 
-pub style-found : (e s : List ℕ) (b k i : ℕ) → i < be 2 s b → holds s b k i ≡ true → NoneBefore s b k i → styleIn s (b + 2 + i * 12) ≡ inForce e s k (At b)
+pub style-found : (e s : List ℕ) (b k i : ℕ) → i < be 2 s b → holds s b k i ≡ true → NoneBefore s b k i → styleIn s (b + 2 + i * 12) ≡ styleAmong e s k b
 unfolding styleAt
 style-found e s b k i l h n = sym (ap (styleOr e s b) (first-some (holds s b k) (be 2 s b) i l h n))
 
-pub style-none : (e s : List ℕ) (b k : ℕ) → NoneBefore s b k (be 2 s b) → styleIn e 34 ≡ inForce e s k (At b)
+pub style-none : (e s : List ℕ) (b k : ℕ) → NoneBefore s b k (be 2 s b) → styleIn e 34 ≡ styleAmong e s k b
 unfolding defaultStyle
 style-none e s b k n = sym (ap (styleOr e s b) (first-none (holds s b k) (be 2 s b) n))
 

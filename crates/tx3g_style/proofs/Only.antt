@@ -13,15 +13,14 @@ use Rattle.verdict.specs.declared.Verdict.the-variants.{Fine}
 use Rattle.verdict.specs.Judgement.{_gives_at_, each}
 use Rattle.verdict.proofs.Judgement.{each-fine, both-fine}
 use Rattle.fields.specs.BigEndian.{be}
-use Rattle.bodies.specs.declared.Body.the-variants.{At}
 use Rattle.bodies.proofs.Filled.{fine-false}
 use Rattle.tx3g_contents.specs.Kinds.{styl, single, known}
 use Rattle.tx3g_entry.specs.Entry.{fontsOf}
 use Rattle.tx3g_rules.specs.Rules.{inRange, styleFault, styleAt, endBefore, judgeStyle, judgeRecords}
-use Rattle.tx3g_sample.specs.declared.Reading.the-variants.{Good}
-use Rattle.tx3g_sample.specs.Sample.{fontsIn, readSample}
+use Rattle.tx3g_sample.specs.Sample.{fontsIn}
 use Rattle.tx3g_sample.proofs.Laws.{read-good, records-fine}
 use Rattle.tx3g_style.specs.Style.{holdsAt, holds, stylesOf}
+use Rattle.tx3g_style.specs.Only.{OnlyOne}
 
 module _ (fonts : ℕ → Bool) (c : ℕ) (s : List ℕ) (p b : ℕ) where
   -- a style without fault begins at or after the end before it, and ends no earlier than it begins
@@ -69,7 +68,7 @@ styles-fine : (fonts : ℕ → Bool) (c : ℕ) (s : List ℕ) (p b : ℕ) → ju
 unfolding judgeRecords
 styles-fine fonts c s p b h = h
 
-pub only-one : (e s : List ℕ) (n b k i j : ℕ) → readSample e s ≡ Good n → stylesOf s ≡ At b → i < be 2 s b → j < be 2 s b → holds s b k i ≡ true → holds s b k j ≡ true → i ≡ j
+pub only-one : OnlyOne
 unfolding stylesOf known single
 only-one e s n b k i j h q l u x y =
     let r = records-fine e n s styl b refl (read-good e s n h .modifiers) q in

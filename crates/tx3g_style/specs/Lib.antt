@@ -1,1 +1,2 @@
 pub mod Style
+pub mod Only

@@ -13,7 +13,7 @@ use Rattle.verdict.specs.Judgement.{fault}
 use Rattle.fields.specs.BigEndian.{be}
 use Rattle.boxes.specs.Boxes.{boxesIn}
 use Rattle.bodies.specs.declared.Body.{Body}
-use Rattle.bodies.specs.declared.Body.the-variants.{At, Nowhere}
+use Rattle.bodies.specs.declared.Body.the-variants.{At, Refused as Stopped, Nowhere}
 use Rattle.bodies.specs.Bodies.{bodyOf}
 use Rattle.tx3g_contents.specs.Kinds.{styl}
 use Rattle.tx3g_rules.specs.Rules.{styleAt}
@@ -57,10 +57,15 @@ abbrev pub styleOr : List ℕ → List ℕ → ℕ → Option ℕ → Style
 styleOr e s b none = defaultStyle e
 styleOr e s b (some i) = styleIn s (styleAt b i)
 
--- the style in force at character k, by where the body of the `styl` begins
-abbrev pub inForce : List ℕ → List ℕ → ℕ → Body → Style
-inForce e s k Nowhere = defaultStyle e
-inForce e s k (At b) = styleOr e s b (first (holds s b k) (be 2 s b))
+-- the style of the `styl` whose body begins at b that holds character k, else the default
+abbrev pub styleAmong : List ℕ → List ℕ → ℕ → ℕ → Style
+styleAmong e s k b = styleOr e s b (first (holds s b k) (be 2 s b))
+
+-- the style in force at character k, by where the body of the `styl` begins; a refused header is passed up, which a sample without fault has not
+abbrev pub inForce : List ℕ → List ℕ → ℕ → Body → Styled
+inForce e s k Nowhere = Found (defaultStyle e)
+inForce e s k (Stopped r) = BadSample r
+inForce e s k (At b) = Found (styleAmong e s k b)
 
 unfoldable pub stylesOf : List ℕ → Body
 stylesOf s = bodyOf styl (boxesIn s (textEnd s) (length s))
@@ -68,7 +73,7 @@ stylesOf s = bodyOf styl (boxesIn s (textEnd s) (length s))
 abbrev pub styledBy : List ℕ → List ℕ → ℕ → Reading → Styled
 styledBy e s k (EntryRefused r) = BadEntry r
 styledBy e s k (SampleRefused r) = BadSample r
-styledBy e s k (Good n) = pick (ltb k n) (Found (inForce e s k (stylesOf s))) (BadSample (fault 7 0))
+styledBy e s k (Good n) = pick (ltb k n) (inForce e s k (stylesOf s)) (BadSample (fault 7 0))
 
 -- the style of character k
 unfoldable pub styleOf : List ℕ → List ℕ → ℕ → Styled

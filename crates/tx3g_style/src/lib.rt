@@ -15,7 +15,7 @@ ghost use Prim.Native.Nat.{_+_, _≤_};
 ghost use lib.ListN.{length};
 ghost use Rattle.tx3g_contents.specs.Contents.{stylesEnd};
 ghost use Rattle.tx3g_sample.specs.Sample.{readSample};
-ghost use Rattle.tx3g_style.specs.Style.{styleIn, holdsAt, inForce, stylesOf, styledBy, styleOf, faultOf};
+ghost use Rattle.tx3g_style.specs.Style.{styleIn, holdsAt, styleAmong, inForce, stylesOf, styledBy, styleOf, faultOf};
 
 // A style: characters from `start` to before `end`, font ID, face flags, size and colour.
 pub struct Style {
@@ -69,7 +69,7 @@ fn holds_character(s: &[u8], at: usize, k: usize) -> bool
 // The style of a `styl` that holds character k, else the default style.
 fn search_styles(e: &[u8], s: &[u8], body: usize, k: usize) -> Style
     requires { ⌜ (46 ≤ length (now e)) × (stylesEnd (now s) body ≤ length (now s)) ⌝ }
-    ensures { λ r. ⌜ r ≡ inForce (now (e .entry)) (now (s .entry)) k (Body.At body) ⌝ }
+    ensures { λ r. ⌜ r ≡ styleAmong (now (e .entry)) (now (s .entry)) k body ⌝ }
 {
     let count = get16(s, body) as usize;
     let mut i = 0;
@@ -83,15 +83,17 @@ fn search_styles(e: &[u8], s: &[u8], body: usize, k: usize) -> Style
     read_style(e, 34)
 }
 
-fn style_in_force(e: &[u8], s: &[u8], k: usize, characters: usize) -> Style
+// The style in force at character k of a sample without fault.
+fn style_in_force(e: &[u8], s: &[u8], k: usize, characters: usize) -> Styled
     requires { ⌜ readSample (now e) (now s) ≡ Reading.Good characters ⌝ }
     ensures { λ r. ⌜ r ≡ inForce (now (e .entry)) (now (s .entry)) k (stylesOf (now (s .entry))) ⌝ }
 {
     let from = text_end(s);
     let t = find_body(s, from, STYL);
     match t {
-        Body::At(body) => search_styles(e, s, body, k),
-        Body::Nowhere => read_style(e, 34),
+        Body::At(body) => Styled::Found(search_styles(e, s, body, k)),
+        Body::Refused(why) => Styled::BadSample(why),
+        Body::Nowhere => Styled::Found(read_style(e, 34)),
     }
 }
 
@@ -100,7 +102,7 @@ fn style_within(e: &[u8], s: &[u8], k: usize, characters: usize) -> Styled
     ensures { λ r. ⌜ r ≡ styledBy (now (e .entry)) (now (s .entry)) k (Reading.Good characters) ⌝ }
 {
     if k < characters {
-        return Styled::Found(style_in_force(e, s, k, characters));
+        return style_in_force(e, s, k, characters);
     }
     Styled::BadSample(fault_at(7, 0))
 }

@@ -1,4 +1,4 @@
--- The last judgements, said of the rows of the table.
+-- Terms of the contracts of private functions: the last judgements, said of the rows of the table.
 use Prim.Native.Nat.{ℕ, _*_}
 use mathlib.Core.List.{List}
 use mathlib.Core.Bool.{not}

@@ -131,13 +131,13 @@ unfolding tick
 tick-less scale m n h k = omega (arith, mul-le-mul-right scale k)
 
 module _ (scale : ℕ) (table samples : List ℕ) (a b n p t : ℕ) (done-so : unpackOf scale table samples a b ≡ Done n p t) where
-  won : Success scale table samples n p t
+  pub won : Success scale table samples n p t
   won = success scale table samples a b n p t done-so
 
-  listed-so : ListOf (trackCues table samples) (trackOf table samples)
+  pub listed-so : ListOf (trackCues table samples) (trackOf table samples)
   listed-so = unpack-right (trackOf table samples) (trackCues table samples) (track-positive table samples (won .fine)) (won .list)
 
-  fits : (i : ℕ) → i < length (trackCues table samples) → Fits scale (getD (trackCues table samples) i noCue)
+  pub fits : (i : ℕ) → i < length (trackCues table samples) → Fits scale (getD (trackCues table samples) i noCue)
   fits i h = record {
     named = listed-so .ids (getD (trackCues table samples) i noCue) (index-mem (trackCues table samples) i noCue h);
     sound = list-sound table samples (won .fine) (trackCues table samples) (won .list) i h;
@@ -236,7 +236,7 @@ module _ (scale T : ℕ) (recs pool : List ℕ) (fine : judgeList scale T recs p
   sound : Sound scale T recs pool
   sound = fine-sound scale T recs pool fine
 
-  given-at : (i : ℕ) → i < count recs → getD (cuesOf scale recs pool) i noCue ≡ cueOf scale recs pool i
+  pub given-at : (i : ℕ) → i < count recs → getD (cuesOf scale recs pool) i noCue ≡ cueOf scale recs pool i
   unfolding cuesOf
   given-at i h = listed-at (cueOf scale recs pool) (count recs) i noCue h
 

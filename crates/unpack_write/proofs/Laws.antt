@@ -16,7 +16,7 @@ use Rattle.boxes.specs.Boxes.{part}
 use Rattle.timeline.specs.Cues.{Body, Cue}
 use Rattle.wvtt_cues.specs.declared.Part.{Part}
 use Rattle.wvtt_cues.specs.Cues.{textOf}
-use Rattle.wvtt_cues.proofs.Walk.{Within}
+use Rattle.wvtt_cues.specs.Walk.{Within}
 use Rattle.wvtt_write.proofs.Laws.{length-part, in-three}
 use Rattle.rows.specs.declared.Row.{Row}
 use Rattle.rows.specs.Table.{rowAt, bodyAt, cueAt, known, Placed}

@@ -1,4 +1,4 @@
--- The rows of the table, ready to be written.
+-- Terms of the contracts of functions that only unpacking calls: the rows of the table, ready to be written.
 use Prim.Native.Nat.{ℕ, zero, suc, _+_, _-_, _≤_, _<_}
 use mathlib.Core.List.{List}
 use Rattle.times.specs.Times.{back}

@@ -6,8 +6,7 @@ use mathlib.Core.List.{List}
 use Rattle.base.proofs.Tests.{both-yes, both-no}
 use Rattle.utf8.specs.Utf8.{utf8}
 use Rattle.utf8.specs.Strings.{hasAny}
-use Rattle.utf8.specs.Forbidden.{forbidden}
-use Rattle.utf8.specs.Machine.{keeps}
+use Rattle.utf8.specs.Forbidden.{forbidden, keeps}
 use Rattle.utf8.specs.declared.Rule.{Rule}
 use Rattle.utf8.specs.declared.Rule.the-variants.{Any}
 use Rattle.utf8.proofs.Windows.{any-none}

@@ -17,8 +17,8 @@ use Rattle.base.proofs.Tests.{one-of-yes, one-of-first, one-of-second}
 use Rattle.ascii.specs.Ascii.{ascii, mark, unmarked, all}
 use Rattle.utf8.specs.Utf8.{utf8, classOf}
 use Rattle.utf8.specs.Strings.{CR, LF, GREATER, startsWithAny, hasAny}
-use Rattle.utf8.specs.Forbidden.{forbidden}
-use Rattle.utf8.specs.Machine.{endsForbidden, keeps, wordTable, next, before, step, run, plain}
+use Rattle.utf8.specs.Forbidden.{forbidden, keeps}
+use Rattle.utf8.specs.Machine.{endsForbidden, wordTable, next, before, step, run, plain, PlainRun, RunWhole}
 use Rattle.utf8.specs.declared.Rule.{Rule}
 use Rattle.utf8.specs.declared.Rule.the-variants.{Any, Line, Payload}
 use Rattle.utf8.proofs.Ranges.{inside}
@@ -151,12 +151,12 @@ module _ (rule : Rule) (s : List ℕ) where
       let e = plain-ascii rule (getD s i 0) h in
       step-on 0 i (λ z. omega arith) (plain-ends rule (getD s i 0) h (before 2 s i) (before 1 s i)) ∙ ap (next 0) (ascii-class (getD s i 0) e)
 
-  pub plain-run : (i n : ℕ) → all (plain rule) s i n ≡ true → run rule s 0 i n ≡ 0
+  plain-on : (i n : ℕ) → all (plain rule) s i n ≡ true → run rule s 0 i n ≡ 0
   unfolding run all iter
-  plain-run i zero h = refl
-  plain-run i (suc n) h =
+  plain-on i zero h = refl
+  plain-on i (suc n) h =
       let here = both-right (all (plain rule) s i n) (plain rule (getD s (i + n) 0)) h in
-      let there = plain-run i n (both-left (all (plain rule) s i n) (plain rule (getD s (i + n) 0)) h) in
+      let there = plain-on i n (both-left (all (plain rule) s i n) (plain rule (getD s (i + n) 0)) h) in
       rw there (plain-step (i + n) here)
 
   module _ (bytes : (j : ℕ) → getD s j 0 < 256) where
@@ -197,19 +197,24 @@ module _ (rule : Rule) (s : List ℕ) where
           | inr b ↦ b .1
         ]
 
-    -- the whole text
-    pub run-whole : (st : ℕ) → st ≡ run rule s 0 0 (length s) → eqb st 0 ≡ keeps rule s
-    run-whole st e =
+    run-end : eqb (run rule s 0 0 (length s)) 0 ≡ keeps rule s
+    run-end =
         elim (standing (length s) (omega arith)) [
           | inl o ↦
-              end s (length s) st (utf8 s) (omega arith) (rw e (o .0)) (rw e (o .1))
+              end s (length s) (run rule s 0 0 (length s)) (utf8 s) (omega arith) (o .0) (o .1)
               ∙ keeps-clean rule s (sym (o .3) ∙ windows-end rule s (length s) (before 2 s (length s)) (before 1 s (length s)) (o .2) (omega arith))
-          | inr b ↦ rw (e, b .0) (b .1)
+          | inr b ↦ rw (b .0) (b .1)
         ]
 
-    -- a text of plain bytes
-    plain-keeps : all (plain rule) s 0 (length s) ≡ true → true ≡ keeps rule s
-    plain-keeps h = sym (eq-eqb (run rule s 0 0 (length s)) 0 (plain-run 0 (length s) h)) ∙ run-whole (run rule s 0 0 (length s)) refl
+pub plain-run : PlainRun
+plain-run rule s i n h = plain-on rule s i n h
+
+pub run-whole : RunWhole
+run-whole rule s bytes = run-end rule s bytes
+
+-- a text of plain bytes
+plain-keeps : (rule : Rule) (s : List ℕ) → ((j : ℕ) → getD s j 0 < 256) → all (plain rule) s 0 (length s) ≡ true → true ≡ keeps rule s
+plain-keeps rule s bytes h = sym (eq-eqb (run rule s 0 0 (length s)) 0 (plain-run rule s 0 (length s) h)) ∙ run-whole rule s bytes
 
 -- a text that is ASCII is UTF-8
 pub ascii-utf8 : (s : List ℕ) → ((j : ℕ) → getD s j 0 < 256) → all ascii s 0 (length s) ≡ true → true ≡ utf8 s

@@ -8,8 +8,7 @@ use lib.Dec.{T, eqb}
 use lib.ListN.{length, getD, drop, drop-of-length-le}
 use lib.Seq.{drop-cons}
 use Rattle.base.specs.Choice.{pick, both, within}
-use Rattle.base.proofs.Table.{at}
-use Rattle.base.specs.Table.{every}
+use Rattle.base.proofs.Table.{every, at}
 use Rattle.utf8.specs.Utf8.{Range, tail, rows, followIn, follow, onSome, judge, utf8, classOf, classTable}
 use Rattle.utf8.specs.Machine.{wordTable, next}
 use Rattle.utf8.proofs.Ranges.{sameAsked, same-asked}

@@ -1,25 +1,23 @@
--- What the private functions answer: the common part of the text rules, the tables that they are lent, and the machine that judges byte by byte.
-use Prim.Native.Nat.{ℕ, _+_, _-_, _*_, _/_, _%_, _^_}
-use mathlib.Core.Bool.{Bool, not}
+-- Terms of the contracts of private functions: the machine that judges a text byte by byte, its words, and plain bytes. A reader need not believe them:
+-- `run-whole` says that the machine's run through a text is the rule, and `plain-run` that plain bytes may be passed at a stride.
+use Prim.Native.Nat.{ℕ, _+_, _-_, _*_, _/_, _%_, _^_, _<_}
+use mathlib.Core.Path.{_≡_}
+use mathlib.Core.Bool.{Bool, true}
 use mathlib.Core.List.{List, [], _∷_, map, reverse}
 use lib.Dec.{eqb, ltb}
-use lib.ListN.{getD}
-use Rattle.base.specs.Choice.{pick, both, one-of}
+use lib.ListN.{length, getD}
+use Rattle.base.specs.Choice.{pick, one-of}
 use Rattle.base.specs.Iter.{iter}
-use Rattle.ascii.specs.Ascii.{ascii, unmarked}
-use Rattle.utf8.specs.Utf8.{utf8, classOf}
-use Rattle.utf8.specs.Strings.{startsWithAny, hasAny}
-use Rattle.utf8.specs.Forbidden.{forbidden}
+use Rattle.ascii.specs.Ascii.{ascii, unmarked, all}
+use Rattle.utf8.specs.Utf8.{classOf}
+use Rattle.utf8.specs.Strings.{startsWithAny}
+use Rattle.utf8.specs.Forbidden.{forbidden, keeps}
 use Rattle.utf8.specs.declared.Rule.{Rule}
 use Rattle.utf8.specs.declared.Rule.the-variants.{Any, Line, Payload}
 
 -- b, after p and q, ends one of the strings: it begins their reversals, read backwards
 unfoldable pub endsForbidden : List (List ℕ) → ℕ → ℕ → ℕ → Bool
 endsForbidden ps p q b = startsWithAny (map reverse ps) (b ∷ q ∷ p ∷ [])
-
--- valid UTF-8 with no forbidden string
-unfoldable pub keeps : Rule → List ℕ → Bool
-keeps rule s = both (utf8 s) (not (hasAny (forbidden rule) s))
 
 -- the next states of the UTF-8 machine: a word for each class, with four bits for each state, those of state 0 the lowest
 unfoldable pub wordTable : List ℕ
@@ -53,3 +51,11 @@ plain Payload b = unmarked b
 -- the end of the block of at most eight bytes that begins at i, in a text that ends at `end`
 unfoldable pub blockEnd : ℕ → ℕ → ℕ
 blockEnd i end = pick (ltb (end - i) 8) end (i + 8)
+
+-- plain bytes keep state 0; this and the next are proved in proofs/Machine.antt
+abbrev pub PlainRun : Type 0
+PlainRun = (rule : Rule) (s : List ℕ) (i n : ℕ) → all (plain rule) s i n ≡ true → run rule s 0 i n ≡ 0
+
+-- the machine is in state 0 after the text exactly if the text keeps the rule
+abbrev pub RunWhole : Type 0
+RunWhole = (rule : Rule) (s : List ℕ) → ((j : ℕ) → getD s j 0 < 256) → eqb (run rule s 0 0 (length s)) 0 ≡ keeps rule s

@@ -1,9 +1,10 @@
 -- UTF-8 by RFC 3629, section 4, and document 01's classes of bytes.
-use Prim.Native.Nat.{ℕ}
+use Prim.Native.Nat.{ℕ, _<_}
+use mathlib.Core.Path.{_≡_}
 use mathlib.Core.List.{List, [], _∷_, _++_}
 use mathlib.Core.Bool.{Bool, true, false}
 use mathlib.Core.Option.{Option, none, some}
-use lib.ListN.{replicate}
+use lib.ListN.{getD, replicate}
 use Rattle.base.specs.Choice.{pick, both, within}
 
 -- the lowest and the highest value of a byte
@@ -76,3 +77,7 @@ unfoldable pub classTable : List ℕ
 classTable =
     replicate 128 0 ++ replicate 16 1 ++ replicate 16 2 ++ replicate 32 3 ++ replicate 2 11 ++ replicate 30 4 ++ replicate 1 5
     ++ replicate 12 6 ++ replicate 1 7 ++ replicate 2 6 ++ replicate 1 8 ++ replicate 3 9 ++ replicate 1 10 ++ replicate 11 11
+
+-- each entry of the table is the class of its own index; proved in proofs/Classes.antt by one test over all 256
+abbrev pub ClassAt : Type 0
+ClassAt = (k : ℕ) → k < 256 → getD classTable k 0 ≡ classOf k

@@ -13,8 +13,8 @@ ghost use Rattle.base.specs.Choice.{both, one-of};
 ghost use Rattle.ascii.specs.Ascii.{all};
 ghost use Rattle.utf8.specs.Utf8.{classOf, classTable};
 ghost use Rattle.utf8.specs.Strings.{CR, LF, DASH};
-ghost use Rattle.utf8.specs.Forbidden.{notInLine, notInPayload, forbidden};
-ghost use Rattle.utf8.specs.Machine.{endsForbidden, keeps, wordTable, next, before, run, plain, blockEnd};
+ghost use Rattle.utf8.specs.Forbidden.{notInLine, notInPayload, forbidden, keeps};
+ghost use Rattle.utf8.specs.Machine.{endsForbidden, wordTable, next, before, run, plain, blockEnd};
 
 // What a text may not hold.
 pub enum Rule {

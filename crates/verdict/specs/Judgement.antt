@@ -7,8 +7,6 @@ use Rattle.verdict.specs.declared.Verdict.the-variants.{Fine, Refused}
 
 infixr 20 _then_
 infix 30 _gives_at_
--- number n at place p
-
 unfoldable pub fault : ℕ → ℕ → Refusal
 fault n p = record { number = n; place = p }
 

@@ -1,4 +1,4 @@
--- Which boxes of a cue have been there.
+-- Terms of the contracts of private functions: which boxes of a cue have been there.
 use Prim.Native.Nat.{ℕ}
 use mathlib.Core.Path.{_≡_}
 use mathlib.Core.List.{List}

@@ -1,6 +1,6 @@
 -- Laws of specs/Cues.antt for the loops: where bodies stand, and the first cue.
-use Prim.Native.Nat.{ℕ, _+_, _≤_, _<_}
-use mathlib.Core.Path.{_≡_, refl, sym, ap, _∙_}
+use Prim.Native.Nat.{ℕ, _≤_}
+use mathlib.Core.Path.{_≡_, refl, _∙_}
 use mathlib.Core.List.{List}
 use mathlib.Core.Bool.{Bool, true, false}
 use native.Mathlib.Omega.{arith}
@@ -10,13 +10,13 @@ use borrow.Author.Tests.{eq-eqb, ne-eqb}
 use Rattle.base.specs.Choice.{pick}
 use Rattle.boxes.specs.declared.Step.{Step}
 use Rattle.boxes.specs.declared.Step.the-variants.{Box, Refused as Stopped, End as Ended}
-use Rattle.boxes.specs.Boxes.{stepAt, Boxes, onStep, boxesIn}
-use Rattle.boxes.proofs.Laws.{boxes-at, boxes-box, NoBox}
+use Rattle.boxes.specs.Boxes.{stepAt, stoppedBy, onStep, boxesIn, passed}
+use Rattle.boxes.proofs.Laws.{boxes-at, boxes-box, passed-box, passed-stop, NoBox}
 use Rattle.wvtt.specs.Kinds.{vttc, vsid, iden, sttg, payl}
 use Rattle.wvtt_cues.specs.declared.Part.{Part}
 use Rattle.wvtt_cues.specs.declared.Places.{Places}
-use Rattle.wvtt_cues.specs.declared.Held.the-variants.{Cue, End}
-use Rattle.wvtt_cues.specs.Cues.{nowhere, placed, bodyOf, placesOf, withId, partsOf, nextCue}
+use Rattle.wvtt_cues.specs.Cues.{nowhere, placed, bodyOf, withId, partsOf, ifWhole, innerOf, cueBy, nextCue}
+use Rattle.wvtt_cues.specs.Terms.{placesOf, ended}
 
 -- a box, and the rest
 body-box : (j : ℕ) (x : Part) (s : List ℕ) (at end k b n : ℕ) → stepAt s at end ≡ Box k b n
@@ -44,12 +44,13 @@ pub record Kept (s : List ℕ) (from end at : ℕ) (x : Places) : Type 0 where
   ofIdentifier : bodyOf iden (x .iden) (boxesIn s at end) ≡ bodyOf iden nowhere (boxesIn s from end)
   ofSettings : bodyOf sttg (x .sttg) (boxesIn s at end) ≡ bodyOf sttg nowhere (boxesIn s from end)
   ofPayload : bodyOf payl (x .payl) (boxesIn s at end) ≡ bodyOf payl nowhere (boxesIn s from end)
+  whole : passed (boxesIn s at end) ≡ passed (boxesIn s from end)
   pub inside : x .vsid .end ≤ length s
 
 module _ (s : List ℕ) (from end : ℕ) where
   pub kept-start : Kept s from end from (record { vsid = nowhere; iden = nowhere; sttg = nowhere; payl = nowhere })
   unfolding nowhere
-  kept-start = record { ofId = refl; ofIdentifier = refl; ofSettings = refl; ofPayload = refl; inside = omega arith }
+  kept-start = record { ofId = refl; ofIdentifier = refl; ofSettings = refl; ofPayload = refl; whole = refl; inside = omega arith }
 
   pub kept-box : (at : ℕ) (x : Places) (k b n : ℕ) → n ≤ length s → stepAt s at end ≡ Box k b n → Kept s from end at x → Kept s from end n (placesOf x k b n)
   unfolding placesOf placed
@@ -58,11 +59,12 @@ module _ (s : List ℕ) (from end : ℕ) where
     ofIdentifier = body-box iden (x .iden) s at end k b n e ∙ m .ofIdentifier;
     ofSettings = body-box sttg (x .sttg) s at end k b n e ∙ m .ofSettings;
     ofPayload = body-box payl (x .payl) s at end k b n e ∙ m .ofPayload;
+    whole = passed-box s at end k b n e ∙ m .whole;
     inside = placed-inside (eqb k vsid) b n (x .vsid) (length s) h (m .inside);
   }
 
   pub kept-stop : (at : ℕ) (x : Places) (t : Step) → stepAt s at end ≡ t → NoBox t → Kept s from end at x
-      → withId s (x .vsid) (x .iden) (x .sttg) (x .payl) ≡ partsOf s (boxesIn s from end)
+      → ifWhole (stoppedBy t) (withId s (x .vsid) (x .iden) (x .sttg) (x .payl)) ≡ innerOf s (boxesIn s from end)
   unfolding partsOf
   kept-stop at x t e h m =
       rw (
@@ -70,24 +72,26 @@ module _ (s : List ℕ) (from end : ℕ) where
         ← m .ofIdentifier,
         ← m .ofSettings,
         ← m .ofPayload,
+        ← m .whole,
+        ← passed-stop s at end t e h,
         body-stop vsid (x .vsid) s at end t e h,
         body-stop iden (x .iden) s at end t e h,
         body-stop sttg (x .sttg) s at end t e h,
         body-stop payl (x .payl) s at end t e h,
       )
 
--- the first cue: a box of another kind, and no further box
-pub next-stop : (s : List ℕ) (at end : ℕ) (t : Step) → stepAt s at end ≡ t → NoBox t → nextCue s (boxesIn s at end) ≡ End
+-- the first cue: no further box, a cue, a box of another kind
+pub next-stop : (s : List ℕ) (at end : ℕ) (t : Step) → stepAt s at end ≡ t → NoBox t → nextCue s (boxesIn s at end) ≡ ended (stoppedBy t)
 unfolding nextCue
 next-stop s at end t e h = rw (boxes-at s at end, e) (go t h)
   where
-    go : (u : Step) → NoBox u → nextCue s (onStep u at (λ n. boxesIn s n end)) ≡ End
+    go : (u : Step) → NoBox u → nextCue s (onStep u at (λ n. boxesIn s n end)) ≡ ended (stoppedBy u)
     go (Box k b n) h = absurd h
     go (Stopped r) h = refl
     go Ended h = refl
 
 module _ (s : List ℕ) (at end k b n : ℕ) (e : stepAt s at end ≡ Box k b n) where
-  pub next-found : k ≡ vttc → nextCue s (boxesIn s at end) ≡ Cue (partsOf s (boxesIn s b n)) n
+  pub next-found : k ≡ vttc → nextCue s (boxesIn s at end) ≡ cueBy (innerOf s (boxesIn s b n)) n
   unfolding nextCue
   next-found q = rw (boxes-box s at end k b n e, nextCue, eq-eqb k vttc q)
 

@@ -1,23 +1,22 @@
--- The cues of a sample without fault are within the limits, and their texts follow their rules.
+-- A sample without fault holds the cues of all its `vttc` boxes; they are within the limits, and their texts follow their rules.
 use Prim.Native.Nat.{ℕ, _-_, _≤_, _<_}
-use mathlib.Core.Path.{_≡_, refl, sym, ap, _∙_}
+use mathlib.Core.Path.{_≡_, refl}
 use mathlib.Core.List.{List, [], _∷_}
 use mathlib.Core.Bool.{Bool, true, false, not}
-use mathlib.Core.Option.{Option, none, some}
+use mathlib.Core.Option.{none, some}
 use native.Mathlib.Omega.{arith}
 use lib.Dec.{eqb, ltb, leb}
-use lib.ListN.{length, drop, length-take}
+use lib.ListN.{length, length-take}
 use borrow.Author.Tests.{ltb-false, leb-false, eqb-true, not-false}
-use Rattle.base.specs.Choice.{pick, both, keep}
+use Rattle.base.specs.Choice.{pick, both}
 use Rattle.base.proofs.Choice.{by-test}
 use Rattle.verdict.specs.declared.Verdict.{Verdict}
-use Rattle.verdict.specs.declared.Verdict.the-variants.{Fine, Refused}
-use Rattle.verdict.specs.Judgement.{_gives_at_, _then_}
+use Rattle.verdict.specs.declared.Verdict.the-variants.{Fine}
+use Rattle.verdict.specs.Judgement.{_gives_at_}
 use Rattle.verdict.proofs.Judgement.{both-fine, not-given}
 use Rattle.fields.specs.BigEndian.{be}
 use Rattle.text.specs.Rules.{identifierText, payloadText}
-use Rattle.boxes.specs.Boxes.{Boxes, clean, broken, box, boxesIn, judged, among, part}
-use Rattle.timeline.specs.Cues.{Body}
+use Rattle.boxes.specs.Boxes.{Boxes, clean, broken, box, boxesIn, passed, judged, among, part}
 use Rattle.utf8.specs.Utf8.{utf8, judge}
 use Rattle.utf8.specs.Strings.{hasAny, beginsLine, endsLine}
 use Rattle.wvtt.specs.Kinds.{vttc, vsid, iden, sttg, payl, line, single}
@@ -25,6 +24,7 @@ use Rattle.wvtt.specs.Sample.{judgeId, judgeText, judgeBody, inCue, endCue, jud
 use Rattle.wvtt.specs.Sound.{Sound, AllSound}
 use Rattle.wvtt_cues.specs.declared.Part.{Part}
 use Rattle.wvtt_cues.specs.Cues.{nowhere, placed, bodyOf, withId, partsOf, textOf, heldBy, cuesIn, sampleCues}
+use Rattle.wvtt_cues.specs.Walk.{everyCue, SampleWhole, SampleSound}
 
 -- a box of a cue without fault has a body without fault
 body-fine : (s before : List ℕ) (p k b n : ℕ) → inCue s before p k b n ≡ Fine → judgeBody s p k b n ≡ Fine
@@ -118,6 +118,31 @@ cue-sound s p b n e =
       payload-right = t .1;
     }
 
+-- boxes that are judged without fault are whole
+judged-whole : (inside : List ℕ → ℕ → ℕ → ℕ → ℕ → Verdict) (last : List ℕ → Verdict) (before : List ℕ) (bs : Boxes) → judged inside last before bs ≡ Fine → passed bs ≡ Fine
+unfolding judged passed
+judged-whole inside last before clean e = refl
+judged-whole inside last before (broken r) e = e
+judged-whole inside last before (box p k b n rest) e = judged-whole inside last (k ∷ before) rest (both-fine (inside before p k b n) _ e .1)
+
+pub cue-whole : (s : List ℕ) (p b n : ℕ) → judgeCue s p b n ≡ Fine → passed (boxesIn s b n) ≡ Fine
+unfolding judgeCue
+cue-whole s p b n e = judged-whole (inCue s) (endCue p) [] (boxesIn s b n) e
+
+-- so a sample without fault holds the cues of all its `vttc` boxes
+cues-whole : (s : List ℕ) (last : List ℕ → Verdict) (bs : Boxes) (before : List ℕ) → judged (inSample s) last before bs ≡ Fine → cuesIn s bs ≡ everyCue s bs
+unfolding cuesIn everyCue judged inSample
+cues-whole s last clean before e = refl
+cues-whole s last (broken r) before e = refl
+cues-whole s last (box p k b n rest) before e =
+    let w = both-fine (inSample s before p k b n) _ e in
+    let tail = cues-whole s last rest (k ∷ before) (w .1) in
+    by-test (eqb k vttc) (λ q. let h : judgeCue s p b n ≡ Fine = rw q at (w .0) in rw (q, cue-whole s p b n h, tail)) (λ q. rw q tail)
+
+pub sample-whole : SampleWhole
+unfolding judgeSample sampleCues
+sample-whole s e = cues-whole s endSample (boxesIn s 0 (length s)) [] e
+
 cues-sound : (s : List ℕ) (last : List ℕ → Verdict) (bs : Boxes) (before : List ℕ) → judged (inSample s) last before bs ≡ Fine → AllSound (cuesIn s bs)
 unfolding cuesIn judged AllSound inSample
 cues-sound s last clean before e = tt
@@ -125,8 +150,8 @@ cues-sound s last (broken r) before e = tt
 cues-sound s last (box p k b n rest) before e =
     let w = both-fine (inSample s before p k b n) _ e in
     let tail = cues-sound s last rest (k ∷ before) (w .1) in
-    by-test (eqb k vttc) (λ q. rw q (cue-sound s p b n (rw q at (w .0)), tail)) (λ q. rw q tail)
+    by-test (eqb k vttc) (λ q. let h : judgeCue s p b n ≡ Fine = rw q at (w .0) in rw (q, cue-whole s p b n h) (cue-sound s p b n h, tail)) (λ q. rw q tail)
 
-pub sample-sound : (s : List ℕ) → judgeSample s ≡ Fine → AllSound (sampleCues s)
+pub sample-sound : SampleSound
 unfolding judgeSample sampleCues
 sample-sound s e = cues-sound s endSample (boxesIn s 0 (length s)) [] e

@@ -1,39 +1,34 @@
--- Walking a sample: what `next_cue` answers, said of the cues that the sample holds from a place on.
-use Prim.Native.Nat.{ℕ, zero, suc, _+_, _-_, _≤_, _<_}
-use mathlib.Core.Path.{_≡_, refl, sym, ap, _∙_, subst}
+-- Walking a sample, as specs/Walk.antt says it.
+use Prim.Native.Nat.{ℕ, zero, suc, _-_, _≤_, _<_}
+use mathlib.Core.Path.{_≡_, refl, sym, _∙_, subst}
 use mathlib.Core.List.{List, [], _∷_}
 use mathlib.Core.Bool.{Bool, true, false}
+use mathlib.Core.Logic.{⊎-elim}
 use native.Mathlib.Omega.{arith}
 use native.Mathlib.Nat.{not-suc-le-zero}
+use types.Run.{OneOf}
+use denote.Enum.Declared.{tagOf, declared}
 use lib.Dec.{eqb}
 use lib.ListN.{length}
 use borrow.Author.Tests.{eqb-true, eqb-false}
-use Rattle.base.specs.Choice.{pick, keep}
+use Rattle.base.specs.Choice.{pick}
 use Rattle.base.proofs.Choice.{by-test}
+use Rattle.verdict.specs.declared.Verdict.{Verdict}
+use Rattle.verdict.specs.declared.Verdict.the-variants.{Fine, Refused as Fault}
 use Rattle.boxes.specs.declared.Step.{Step}
 use Rattle.boxes.specs.declared.Step.the-variants.{Box, Refused as Stopped, End as Ended}
-use Rattle.boxes.specs.Boxes.{stepAt, Boxes, clean, broken, box, onStep, boxesF, boxesIn}
-use Rattle.boxes.proofs.Laws.{step-box, boxes-at, boxes-box, NoBox, Lies}
-use Rattle.timeline.specs.Cues.{Body}
-use Rattle.wvtt.specs.Kinds.{vttc, vsid, iden, sttg, payl}
+use Rattle.boxes.specs.Boxes.{stepAt, Boxes, clean, broken, box, onStep, boxesF, boxesIn, passed}
+use Rattle.boxes.proofs.Laws.{step-box, boxes-at, boxes-box, NoBox}
+use Rattle.wvtt.specs.Kinds.{vttc, iden, sttg, payl}
 use Rattle.wvtt_cues.specs.declared.Part.{Part}
-use Rattle.wvtt_cues.specs.declared.Parts.{Parts}
 use Rattle.wvtt_cues.specs.declared.Held.{Held}
-use Rattle.wvtt_cues.specs.declared.Held.the-variants.{Cue, End}
-use Rattle.wvtt_cues.specs.Cues.{nowhere, placed, bodyOf, withId, partsOf, heldBy, cuesIn, nextCue}
+use Rattle.wvtt_cues.specs.declared.Held.the-variants.{Cue, Refused, End}
+use Rattle.wvtt_cues.specs.Cues.{nowhere, placed, bodyOf, withId, partsOf, ifWhole, innerOf, heldThen, cuesIn, cueBy, nextCue}
+use Rattle.wvtt_cues.specs.Walk.{Within, Inside, heldFrom, Means, NextMeans}
+use Rattle.wvtt_cues.proofs.Held.{enum as Held-enum}
 use Rattle.wvtt_cues.proofs.Laws.{next-stop, next-found, next-other}
 
 -- ---- parts lie within the sample
-
-pub record Within (l : ℕ) (x : Part) : Type 0 where
-  pub order : x .from ≤ x .end
-  pub inside : x .end ≤ l
-
--- the texts of a cue lie within the sample
-pub record Inside (l : ℕ) (c : Parts) : Type 0 where
-  pub identifier : Within l (c .identifier)
-  pub settings : Within l (c .settings)
-  pub payload : Within l (c .payload)
 
 -- the bodies of boxes end before l
 Bounded : ℕ → Boxes → Type 0
@@ -82,21 +77,6 @@ parts-inside s from end l h =
 
 -- ---- the cues from a place on
 
--- the cues that a sample holds from a place on where a box begins
-unfoldable pub heldFrom : List ℕ → ℕ → List Body
-heldFrom s from = cuesIn s (boxesIn s from (length s))
-
--- what an answer of `next_cue` at a place means
-pub record Next (s : List ℕ) (from : ℕ) (c : Parts) (n : ℕ) : Type 0 where
-  pub held : heldFrom s from ≡ heldBy s c ∷ heldFrom s n
-  pub on : from < n
-  pub within : n ≤ length s
-  pub inside : Inside (length s) c
-
-abbrev pub Means : List ℕ → ℕ → Held → Type 0
-Means s from (Cue c n) = Next s from c n
-Means s from End = heldFrom s from ≡ []
-
 module _ (s : List ℕ) where
   no-box : (from : ℕ) (t : Step) → stepAt s from (length s) ≡ t → NoBox t → heldFrom s from ≡ []
   unfolding heldFrom cuesIn
@@ -107,13 +87,20 @@ module _ (s : List ℕ) where
       go (Stopped r) h = refl
       go Ended h = refl
 
-  a-box : (from k b n : ℕ) → stepAt s from (length s) ≡ Box k b n → heldFrom s from ≡ keep (eqb k vttc) (heldBy s (partsOf s (boxesIn s b n))) (heldFrom s n)
+  a-box : (from k b n : ℕ) → stepAt s from (length s) ≡ Box k b n → heldFrom s from ≡ pick (eqb k vttc) (heldThen s (innerOf s (boxesIn s b n)) (heldFrom s n)) (heldFrom s n)
   unfolding heldFrom cuesIn
   a-box from k b n e = rw (boxes-box s from (length s) k b n e)
 
   passed-on : (from n : ℕ) (h : Held) → from < n → heldFrom s from ≡ heldFrom s n → Means s n h → Means s from h
   passed-on from n (Cue c m) l e w = record { held = e ∙ w .held; on = omega (arith, w .on); within = w .within; inside = w .inside }
+  passed-on from n (Refused r) l e w = e ∙ w
   passed-on from n End l e w = e ∙ w
+
+  -- a cue, its boxes whole or not
+  a-cue : (from b n : ℕ) (v : Verdict) → from < n → n ≤ length s → heldFrom s from ≡ heldThen s (ifWhole v (partsOf s (boxesIn s b n))) (heldFrom s n)
+      → Means s from (cueBy (ifWhole v (partsOf s (boxesIn s b n))) n)
+  a-cue from b n Fine l h e = record { held = e; on = l; within = h; inside = parts-inside s b n (length s) h }
+  a-cue from b n (Fault r) l h e = e
 
   next-means-f : (f from : ℕ) → length s - from < f → Means s from (nextCue s (boxesIn s from (length s)))
   next-means-f zero from h = absurd (not-suc-le-zero h)
@@ -124,12 +111,28 @@ module _ (s : List ℕ) where
           let w = step-box s from (length s) k b n e in
           by-test (eqb k vttc)
           (λ q. subst (Means s from) (sym (next-found s from (length s) k b n e (eqb-true k vttc q)))
-          (record { held = a-box from k b n e ∙ rw q; on = omega arith; within = w .inside; inside = parts-inside s b n (length s) (w .inside) }))
+          (a-cue from b n (passed (boxesIn s b n)) (omega arith) (w .inside) (a-box from k b n e ∙ rw q)))
           (λ q. subst (Means s from) (next-other s from (length s) k b n e (eqb-false k vttc q))
           (passed-on from n (nextCue s (boxesIn s n (length s))) (omega arith) (a-box from k b n e ∙ rw q) (rest n (omega arith))))
       go (Stopped r) e rest = subst (Means s from) (sym (next-stop s from (length s) (Stopped r) e tt)) (no-box from (Stopped r) e tt)
       go Ended e rest = subst (Means s from) (sym (next-stop s from (length s) Ended e tt)) (no-box from Ended e tt)
 
-  -- the answer of `next_cue`
-  pub next-means : (from : ℕ) (h : Held) → h ≡ nextCue s (boxesIn s from (length s)) → Means s from h
-  next-means from h e = subst (Means s from) (sym e) (next-means-f (suc (length s - from)) from (omega arith))
+pub next-means : NextMeans
+next-means s from h e = subst (Means s from) (sym e) (next-means-f s (suc (length s - from)) from (omega arith))
+
+-- the answer is no cue
+abbrev pub NoCue : Held → Type 0
+NoCue (Cue c n) = ⊥
+NoCue (Refused r) = Unit {0}
+NoCue End = Unit {0}
+
+-- in the `else` of `let Held::Cue { .. } = h else`
+pub not-cue : (h : Held) → OneOf (1 ∷ 2 ∷ []) (tagOf (declared Held-enum) h) → NoCue h
+not-cue (Cue c n) t = ⊎-elim (λ z. absurd (omega arith)) (λ z. absurd (omega arith)) t
+not-cue (Refused r) t = tt
+not-cue End t = tt
+
+pub next-none : (s : List ℕ) (from : ℕ) (h : Held) → h ≡ nextCue s (boxesIn s from (length s)) → NoCue h → heldFrom s from ≡ []
+next-none s from (Cue c n) e t = absurd t
+next-none s from (Refused r) e t = next-means s from (Refused r) e
+next-none s from End e t = next-means s from End e

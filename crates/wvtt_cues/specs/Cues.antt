@@ -1,20 +1,22 @@
 -- The cues that a sample holds: its `vttc` boxes from left to right, each by ID and the bytes of its three texts.
 use Prim.Native.Nat.{ℕ, _-_}
 use mathlib.Core.List.{List, [], _∷_}
-use mathlib.Core.Bool.{Bool}
-use mathlib.Core.Option.{Option, none, some}
+use mathlib.Core.Option.{none, some}
 use lib.Dec.{eqb}
 use lib.ListN.{length}
-use Rattle.base.specs.Choice.{pick, keep}
+use Rattle.base.specs.Choice.{pick}
+use Rattle.verdict.specs.declared.Verdict.{Verdict}
+use Rattle.verdict.specs.declared.Verdict.the-variants.{Fine, Refused}
 use Rattle.fields.specs.BigEndian.{be}
-use Rattle.boxes.specs.Boxes.{Boxes, clean, broken, box, boxesIn, part}
+use Rattle.boxes.specs.Boxes.{Boxes, clean, broken, box, boxesIn, passed, part}
 use Rattle.timeline.specs.Cues.{Body}
 use Rattle.wvtt.specs.Kinds.{vttc, vsid, iden, sttg, payl}
 use Rattle.wvtt_cues.specs.declared.Part.{Part}
 use Rattle.wvtt_cues.specs.declared.Parts.{Parts}
-use Rattle.wvtt_cues.specs.declared.Places.{Places}
+use Rattle.wvtt_cues.specs.declared.Inner.{Inner}
+use Rattle.wvtt_cues.specs.declared.Inner.the-variants.{Whole, Refused as Broken}
 use Rattle.wvtt_cues.specs.declared.Held.{Held}
-use Rattle.wvtt_cues.specs.declared.Held.the-variants.{Cue, End}
+use Rattle.wvtt_cues.specs.declared.Held.the-variants.{Cue, Refused as Stopped, End}
 
 -- no bytes
 unfoldable pub nowhere : Part
@@ -31,12 +33,6 @@ bodyOf k x clean = x
 bodyOf k x (broken r) = x
 bodyOf k x (box p j b n rest) = bodyOf k (placed j k b n x) rest
 
--- the places of the four bodies, with a box of kind j
-unfoldable pub placesOf : Places → ℕ → ℕ → ℕ → Places
-unfolding placed
-placesOf x j b n =
-    record { vsid = placed j vsid b n (x .vsid); iden = placed j iden b n (x .iden); sttg = placed j sttg b n (x .sttg); payl = placed j payl b n (x .payl) }
-
 -- the ID where the body of `vsid` stands, and where the three texts stand
 unfoldable pub withId : List ℕ → Part → Part → Part → Part → Parts
 withId s v i g t =
@@ -51,6 +47,14 @@ withId s v i g t =
 -- the parts of a cue whose boxes are given
 unfoldable pub partsOf : List ℕ → Boxes → Parts
 partsOf s bs = withId s (bodyOf vsid nowhere bs) (bodyOf iden nowhere bs) (bodyOf sttg nowhere bs) (bodyOf payl nowhere bs)
+
+-- a cue by its parts, if its boxes are whole; else the refusal of the header at which they stop
+abbrev pub ifWhole : Verdict → Parts → Inner
+ifWhole Fine c = Whole c
+ifWhole (Refused r) c = Broken r
+
+abbrev pub innerOf : List ℕ → Boxes → Inner
+innerOf s bs = ifWhole (passed bs) (partsOf s bs)
 
 -- the bytes of a part
 unfoldable pub textOf : List ℕ → Part → List ℕ
@@ -67,21 +71,33 @@ heldBy s c =
       payload = textOf s (c .payload);
     }
 
+-- a cue whose boxes are whole, and those behind it; one whose boxes are not ends the walk
+abbrev pub heldThen : List ℕ → Inner → List Body → List Body
+heldThen s (Whole c) ys = heldBy s c ∷ ys
+heldThen s (Broken r) ys = []
+
 -- the cues among the boxes of a sample
 unfoldable pub cuesIn : List ℕ → Boxes → List Body
 unfolding heldBy partsOf
 cuesIn s clean = []
 cuesIn s (broken r) = []
-cuesIn s (box p k b n rest) = keep (eqb k vttc) (heldBy s (partsOf s (boxesIn s b n))) (cuesIn s rest)
+cuesIn s (box p k b n rest) = pick (eqb k vttc) (heldThen s (innerOf s (boxesIn s b n)) (cuesIn s rest)) (cuesIn s rest)
 
 -- the cues of a sample
 unfoldable pub sampleCues : List ℕ → List Body
 unfolding cuesIn
 sampleCues s = cuesIn s (boxesIn s 0 (length s))
 
--- the first cue among boxes, with the place after it
+-- a cue with the place after it, or the refusal among its boxes
+abbrev pub cueBy : Inner → ℕ → Held
+cueBy (Whole c) n = Cue c n
+cueBy (Broken r) n = Stopped r
+
+-- The first cue among boxes, with the place after it; or the refusal of the header that stands before it or among its boxes.
+-- Document 01 leaves free what a sample holds that is refused for another reason. The answer goes by the boxes as they stand:
+-- the last box of a kind counts, and a `vsid` that is not 4 bytes counts as none.
 unfoldable pub nextCue : List ℕ → Boxes → Held
 unfolding partsOf
 nextCue s clean = End
-nextCue s (broken r) = End
-nextCue s (box p k b n rest) = pick (eqb k vttc) (Cue (partsOf s (boxesIn s b n)) n) (nextCue s rest)
+nextCue s (broken r) = Stopped r
+nextCue s (box p k b n rest) = pick (eqb k vttc) (cueBy (innerOf s (boxesIn s b n)) n) (nextCue s rest)

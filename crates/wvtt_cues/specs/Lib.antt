@@ -1,1 +1,3 @@
 pub mod Cues
+pub mod Walk
+pub mod Terms

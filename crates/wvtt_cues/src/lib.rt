@@ -1,7 +1,10 @@
 // The cues of a WebVTT sample, one by one from left to right.
 use boxes::Step;
 use boxes::step_at;
+use boxes::stopped_by;
 use fields::get32;
+use verdict::Refusal;
+use verdict::Verdict;
 use wvtt::IDEN;
 use wvtt::PAYL;
 use wvtt::STTG;
@@ -10,10 +13,9 @@ use wvtt::VTTC;
 ghost use mathlib.Core.Path.{_≡_};
 ghost use Prim.Native.Nat.{_≤_};
 ghost use lib.ListN.{length};
-ghost use lib.Dec.{eqb};
-ghost use Rattle.base.specs.Choice.{pick};
-ghost use Rattle.boxes.specs.Boxes.{boxesIn};
-ghost use Rattle.wvtt_cues.specs.Cues.{withId, partsOf, nextCue, placed, placesOf};
+ghost use Rattle.boxes.specs.Boxes.{boxesIn, stoppedBy};
+ghost use Rattle.wvtt_cues.specs.Cues.{withId, ifWhole, innerOf, cueBy, nextCue, placed};
+ghost use Rattle.wvtt_cues.specs.Terms.{ended, placesOf};
 
 // Where bytes stand in a sample: from `from` to before `end`.
 pub struct Part {
@@ -30,9 +32,16 @@ pub struct Parts {
     pub payload: Part,
 }
 
-// The next cue with the place after it, or none.
+// What the boxes of a cue give: its parts, or the refusal of a header.
+pub enum Inner {
+    Whole(Parts),
+    Refused(Refusal),
+}
+
+// The next cue with the place after it, the refusal of a header, or none.
 pub enum Held {
     Cue { parts: Parts, next: usize },
+    Refused(Refusal),
     End,
 }
 
@@ -100,10 +109,21 @@ fn name_parts(s: &[u8], places: Places) -> Parts
     }
 }
 
+// The cue whose boxes stand at these places, where a step gives no further box.
+fn end_parts(s: &[u8], t: Step, places: Places) -> Inner
+    requires { ⌜ places .vsid .end ≤ length (now s) ⌝ }
+    ensures { λ r. ⌜ r ≡ ifWhole (stoppedBy t) (withId (now (s .entry)) (places .vsid) (places .iden) (places .sttg) (places .payl)) ⌝ }
+{
+    let Verdict::Refused(why) = stopped_by(t) else {
+        return Inner::Whole(name_parts(s, places));
+    };
+    Inner::Refused(why)
+}
+
 // The cue whose box's body goes from `from` to `end`.
-pub fn read_parts(s: &[u8], from: usize, end: usize) -> Parts
+pub fn read_parts(s: &[u8], from: usize, end: usize) -> Inner
     requires { ⌜ end ≤ length (now s) ⌝ }
-    ensures { λ r. ⌜ r ≡ partsOf (now (s .entry)) (boxesIn (now (s .entry)) from end) ⌝ }
+    ensures { λ r. ⌜ r ≡ innerOf (now (s .entry)) (boxesIn (now (s .entry)) from end) ⌝ }
 {
     let nowhere = Part { from: 0, end: 0 };
     let mut places = Places {
@@ -116,14 +136,34 @@ pub fn read_parts(s: &[u8], from: usize, end: usize) -> Parts
     loop {
         let t = step_at(s, at, end);
         let Step::Box { kind, body, next } = t else {
-            return name_parts(s, places);
+            return end_parts(s, t, places);
         };
         places = place_box(places, kind, body, next);
         at = next;
     }
 }
 
-// The first cue of a sample from a place on where a box begins.
+// A cue that has been read, with the place after it.
+fn held_cue(inner: Inner, next: usize) -> Held
+    ensures { λ r. ⌜ r ≡ cueBy inner next ⌝ }
+{
+    match inner {
+        Inner::Whole(parts) => Held::Cue { parts, next },
+        Inner::Refused(why) => Held::Refused(why),
+    }
+}
+
+// The answer where a step gives no box.
+fn held_end(t: Step) -> Held
+    ensures { λ r. ⌜ r ≡ ended (stoppedBy t) ⌝ }
+{
+    match stopped_by(t) {
+        Verdict::Fine => Held::End,
+        Verdict::Refused(why) => Held::Refused(why),
+    }
+}
+
+// The first cue of a sample from a place on where a box begins. A sample that `judge_sample` refuses may give cues all the same, up to the first refused header.
 pub fn next_cue(s: &[u8], from: usize) -> Held
     ensures { λ r. ⌜ r ≡ nextCue (now (s .entry)) (boxesIn (now (s .entry)) from (length (now (s .entry)))) ⌝ }
 {
@@ -132,11 +172,10 @@ pub fn next_cue(s: &[u8], from: usize) -> Held
     loop {
         let t = step_at(s, at, end);
         let Step::Box { kind, body, next } = t else {
-            return Held::End;
+            return held_end(t);
         };
         if kind == VTTC {
-            let parts = read_parts(s, body, next);
-            return Held::Cue { parts, next };
+            return held_cue(read_parts(s, body, next), next);
         }
         at = next;
     }

@@ -1,32 +1,32 @@
--- Reading a sample that was written gives its cues back, and finds no fault in it.
-use Prim.Native.Nat.{ℕ, zero, suc, _+_, _-_, _^_, _≤_, _<_}
-use mathlib.Core.Path.{_≡_, refl, sym, ap, ap₂, _∙_, subst}
+-- Reading a sample that was written finds no fault in it, and gives its cues back.
+use Prim.Native.Nat.{ℕ, zero, suc, _+_, _-_, _≤_, _<_}
+use mathlib.Core.Path.{_≡_, refl, sym, ap, _∙_}
 use mathlib.Core.List.{List, [], _∷_, _++_, append-assoc, append-nil}
 use mathlib.Core.Bool.{Bool, true, false, not}
 use mathlib.Core.Option.{Option, none, some}
 use native.Mathlib.Omega.{arith}
 use native.Mathlib.Nat.{le-refl, zero-add}
-use lib.Dec.{eqb, ltb, leb}
+use lib.Dec.{eqb}
 use lib.ListN.{length, length-append}
 use borrow.Author.Tests.{le-ltb, lt-leb, ne-eqb}
-use Rattle.base.specs.Choice.{pick, both, one-of, keep}
-use Rattle.base.proofs.Choice.{by-test}
+use Rattle.base.specs.Choice.{pick, both}
 use Rattle.verdict.specs.declared.Verdict.{Verdict}
 use Rattle.verdict.specs.declared.Verdict.the-variants.{Fine}
-use Rattle.verdict.specs.Judgement.{_gives_at_, _then_}
+use Rattle.verdict.specs.Judgement.{_gives_at_}
 use Rattle.fields.specs.BigEndian.{be, bytes}
 use Rattle.fields.proofs.BigEndian.{length-bytes, be-bytes}
 use Rattle.boxes.specs.Boxes.{boxesF, boxesIn, passed, judged, among, times, part}
 use Rattle.boxes.specs.Written.{Item, boxBytes, itemBytes, Fitting, laid}
 use Rattle.boxes.proofs.Written.{length-box, around, part-written, pass-box, length-pass, boxes-written, be-part}
 use Rattle.timeline.specs.Cues.{Body}
-use Rattle.wvtt.specs.Kinds.{vttc, vtte, vsid, iden, ctim, sttg, payl, line, single}
-use Rattle.wvtt.specs.Sample.{judgeId, judgeText, judgeBody, inCue, endCue, judgeCue, inSample, endSample, endCounts, judgeSample}
+use Rattle.wvtt.specs.Kinds.{vttc, vtte, vsid, iden, sttg, payl, line, single}
+use Rattle.wvtt.specs.Sample.{judgeId, judgeText, judgeBody, inCue, endCue, judgeCue, inSample, endSample, judgeSample}
 use Rattle.text.specs.Rules.{identifierText, payloadText}
 use Rattle.wvtt.specs.Sound.{Sound, AllSound}
 use Rattle.wvtt_cues.specs.declared.Part.{Part}
 use Rattle.wvtt_cues.specs.Cues.{nowhere, placed, bodyOf, withId, partsOf, textOf, heldBy, cuesIn, sampleCues}
 use Rattle.wvtt_write.specs.Written.{idItem, ifAny, textItems, cueItems, cueBytes, cuesBytes, sampleBytes, anySize, textsSize}
+use Rattle.wvtt_write.specs.ReadBack.{SampleFine, SampleHeld}
 use Rattle.wvtt_write.proofs.Laws.{length-texts}
 
 -- the bytes of items, with q before and r behind them
@@ -296,6 +296,15 @@ cue-boxes : (q : List ℕ) (y : Body) (xs : List Item) (r : List ℕ) → Sound 
 unfolding cueEnd
 cue-boxes q y xs r h = rw (cue-inside q y xs r, ← length-header q y) (items-read (cueItems y) (q ++ header y) (itemBytes xs ++ r) (cue-fits y h))
 
+-- its boxes are whole
+laid-whole : (p : ℕ) (xs : List Item) → passed (laid p xs) ≡ Fine
+unfolding laid passed
+laid-whole p [] = refl
+laid-whole p (x ∷ xs) = laid-whole (p + 8 + length (x .body)) xs
+
+cue-whole : (q : List ℕ) (y : Body) (xs : List Item) (r : List ℕ) → Sound y → passed (boxesIn (inside q (cueBox y ∷ xs) r) (length q + 8) (cueEnd q y)) ≡ Fine
+cue-whole q y xs r h = rw (cue-boxes q y xs r h) (laid-whole (length q + 8) (cueItems y))
+
 -- the cue is read without fault
 cue-fine : (q : List ℕ) (y : Body) (xs : List Item) (r : List ℕ) (p : ℕ) → Sound y → judgeCue (inside q (cueBox y ∷ xs) r) p (length q + 8) (cueEnd q y) ≡ Fine
 unfolding judgeCue
@@ -371,7 +380,7 @@ cues-held (y ∷ ys) q r h =
     ap (λ (w : List ℕ). cuesIn w (laid (cueEnd q y) xs)) (rest-is q (cueBox y) xs r)
     ∙ ap (λ (k : ℕ). cuesIn (inside q′ xs r) (laid k xs)) (sym (length-pass q vttc (itemBytes (cueItems y))))
     ∙ cues-held ys q′ r (h .1) in
-    rw (cue-read q y xs r (h .0), ih′)
+    rw (cue-whole q y xs r (h .0), cue-read q y xs r (h .0), ih′)
 
 -- at the end of a sample of cues alone there is no fault
 kinds-empty : (ys : List Body) (before : List ℕ) → times vtte (kindsAfter before (cueBoxes ys)) ≡ times vtte before
@@ -409,7 +418,7 @@ unfolding sampleCues sampleBytes boxBytes bytes boxesIn boxesF be cuesIn
 empty-held = refl
 
 -- a sample that was written is read without fault
-pub sample-fine : (ys : List Body) → AllSound ys → judgeSample (sampleBytes ys) ≡ Fine
+pub sample-fine : SampleFine
 unfolding judgeSample sampleBytes
 sample-fine [] h = empty-fine
 sample-fine (y ∷ ys) h =
@@ -417,7 +426,7 @@ sample-fine (y ∷ ys) h =
     rw (cues-are (y ∷ ys), alone xs, alone-boxes xs (cues-fit (y ∷ ys) h)) (cues-judged endSample (y ∷ ys) [] [] [] h ∙ some-cues y ys)
 
 -- and its cues come back
-pub sample-held : (ys : List Body) → AllSound ys → sampleCues (sampleBytes ys) ≡ ys
+pub sample-held : SampleHeld
 unfolding sampleCues sampleBytes
 sample-held [] h = empty-held
 sample-held (y ∷ ys) h =

@@ -216,8 +216,8 @@ fn read(samples: &[&[u8]], items: &[usize]) -> [f64; 2] {
         items,
         [
             &mut each(samples, |sample| {
-                let cues = captions::cues(sample).map(|cue| cue.payload.len());
-                accepted(captions::judge_sample(sample)) + cues.sum::<usize>()
+                let cues = captions::cues(sample).expect("a good sample");
+                cues.map(|cue| cue.payload.len()).sum()
             }),
             &mut each(samples, |sample| {
                 let cues = plain::wvtt::cues(sample).map(|cue| cue.payload.len());

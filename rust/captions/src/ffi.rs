@@ -31,6 +31,8 @@ pub struct CaptionsStep {
 #[repr(C)]
 #[derive(Clone, Copy, Debug, PartialEq, Eq)]
 pub struct CaptionsCue {
+    pub number: u32,
+    pub place: usize,
     pub found: bool,
     pub named: bool,
     pub id: u32,
@@ -90,8 +92,10 @@ pub struct CaptionsStyle {
 }
 
 #[repr(C)]
-#[derive(Clone, Copy)]
+#[derive(Clone, Copy, Debug, PartialEq, Eq)]
 pub struct CaptionsModifier {
+    pub number: u32,
+    pub place: usize,
     pub found: bool,
     pub kind: u32,
     pub first: u32,

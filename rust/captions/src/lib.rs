@@ -106,10 +106,10 @@ pub struct Cue<'a> {
     pub payload: &'a [u8],
 }
 
-/// The cues of a sample from left to right; of one that is refused, those before the first
-/// broken box.
-pub fn cues(sample: &[u8]) -> Cues<'_> {
-    Cues { sample, from: 0 }
+/// The cues of a sample from left to right. Refused: as [`judge_sample`].
+pub fn cues(sample: &[u8]) -> Result<Cues<'_>, Refusal> {
+    judge_sample(sample)?;
+    Ok(Cues { sample, from: 0 })
 }
 
 /// See [`cues`].

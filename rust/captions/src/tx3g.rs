@@ -155,16 +155,37 @@ pub enum Modifier {
     Wrap(u8),
 }
 
-/// The modifiers of a good sample from left to right; other boxes are passed over.
-pub fn modifiers(sample: &[u8]) -> impl Iterator<Item = Modifier> + '_ {
+/// The modifiers of a sample from left to right; other boxes are passed over. Refused: as
+/// [`judge_sample`].
+pub fn modifiers<'a>(entry: &[u8], sample: &'a [u8]) -> Result<Modifiers<'a>, Tx3gRefusal> {
+    judge_sample(entry, sample)?;
     // SAFETY: pointer and length of a slice.
-    let mut at = unsafe { ffi::captions_modifiers_from(sample.as_ptr(), sample.len()) };
-    std::iter::from_fn(move || {
+    let from = unsafe { ffi::captions_modifiers_from(sample.as_ptr(), sample.len()) };
+    Ok(Modifiers { sample, from })
+}
+
+/// See [`modifiers`].
+#[derive(Clone, Debug)]
+pub struct Modifiers<'a> {
+    sample: &'a [u8],
+    from: usize,
+}
+
+impl Iterator for Modifiers<'_> {
+    type Item = Modifier;
+
+    fn next(&mut self) -> Option<Modifier> {
+        let sample = self.sample;
         // SAFETY: pointer and length of a slice.
-        let found = unsafe { ffi::captions_next_modifier(sample.as_ptr(), sample.len(), at) };
-        at = found.next;
+        let found =
+            unsafe { ffi::captions_next_modifier(sample.as_ptr(), sample.len(), self.from) };
+        self.from = if found.found {
+            found.next
+        } else {
+            sample.len()
+        };
         found.found.then(|| modifier(&found))
-    })
+    }
 }
 
 /// Each number has the bytes of its field, so none is cut short here.

@@ -107,7 +107,7 @@ impl Library for Proved {
         Some(judged.map_err(refusal))
     }
 
-    fn cues(&self, sample: &[u8]) -> Offered<Vec<Cue>> {
+    fn cues(&self, sample: &[u8]) -> Offered<Result<Vec<Cue>, Refusal>> {
         Some(lend([sample], |[sample]| {
             let cue = |cue: captions::Cue| Cue {
                 id: cue.id,
@@ -115,7 +115,8 @@ impl Library for Proved {
                 settings: span(sample, cue.settings),
                 payload: span(sample, cue.payload),
             };
-            captions::cues(sample).map(cue).collect()
+            let cues = captions::cues(sample).map_err(refusal)?;
+            Ok(cues.map(cue).collect())
         }))
     }
 
@@ -229,11 +230,15 @@ impl Library for Proved {
         Some(style.map(style_bytes).map_err(tx3g_refusal))
     }
 
-    fn modifiers(&self, sample: &[u8]) -> Offered<Vec<Modifier>> {
-        let found = lend([sample], |[sample]| {
-            captions::tx3g::modifiers(sample).collect::<Vec<_>>()
+    fn modifiers(
+        &self,
+        entry: &[u8],
+        sample: &[u8],
+    ) -> Offered<Result<Vec<Modifier>, Tx3gRefusal>> {
+        let found = lend([entry, sample], |[entry, sample]| {
+            captions::tx3g::modifiers(entry, sample).map(|m| m.map(modifier).collect())
         });
-        Some(found.into_iter().map(modifier).collect())
+        Some(found.map_err(tx3g_refusal))
     }
 
     fn text_box(&self, entry: &[u8], sample: &[u8]) -> Offered<Result<TextBoxAt, Tx3gRefusal>> {

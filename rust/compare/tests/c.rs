@@ -17,8 +17,10 @@ const ANSWERS: &[&str] = &[
     "times 499 333",
     "sample 0 0",
     "sample 1 30",
-    "cue 1 1 7 0 0 0 0 28 30 30",
-    "cue 0 0 0 0 0 0 0 0 0 0",
+    "cue 0 0 1 1 7 0 0 0 0 28 30 30",
+    "cue 0 0 0 0 0 0 0 0 0 0 0 0",
+    "cue 1 30 0 0 0 0 0 0 0 0 0 0",
+    "cue 1 8 0 0 0 0 0 0 0 0 0 0",
     "entry 0 0",
     "entry 4 0",
     "list 0 0",
@@ -38,6 +40,10 @@ const ANSWERS: &[&str] = &[
     "style 2 7 0",
     "box 0 0 0 0 26",
     "box 0 0 0 1 10",
+    "from 2",
+    "modifier 0 0 1 68726566 0 0 0 0 15 16 17 18 18",
+    "modifier 0 0 0 0 0 0 0 0 0 0 0 0 0",
+    "modifier 1 18 0 0 0 0 0 0 0 0 0 0 0",
 ];
 
 /// The layouts as Rust has them.
@@ -53,6 +59,7 @@ fn layouts() -> Vec<(&'static str, usize)> {
         ("at CaptionsStep.kind", offset_of!(CaptionsStep, kind)),
         ("at CaptionsStep.next", offset_of!(CaptionsStep, next)),
         ("size CaptionsCue", size_of::<CaptionsCue>()),
+        ("at CaptionsCue.found", offset_of!(CaptionsCue, found)),
         ("at CaptionsCue.named", offset_of!(CaptionsCue, named)),
         ("at CaptionsCue.id", offset_of!(CaptionsCue, id)),
         ("at CaptionsCue.next", offset_of!(CaptionsCue, next)),
@@ -67,6 +74,11 @@ fn layouts() -> Vec<(&'static str, usize)> {
         ("size CaptionsTextBox", size_of::<CaptionsTextBox>()),
         ("at CaptionsTextBox.insample", offset_of!(CaptionsTextBox, insample)),
         ("at CaptionsTextBox.offset", offset_of!(CaptionsTextBox, offset)),
+        ("size CaptionsModifier", size_of::<CaptionsModifier>()),
+        ("at CaptionsModifier.found", offset_of!(CaptionsModifier, found)),
+        ("at CaptionsModifier.kind", offset_of!(CaptionsModifier, kind)),
+        ("at CaptionsModifier.from", offset_of!(CaptionsModifier, from)),
+        ("at CaptionsModifier.next", offset_of!(CaptionsModifier, next)),
     ]
 }
 

@@ -9,13 +9,20 @@
 #define TABLE "\0\x01\x5f\x90\0\0\0\x1e"
 #define TX3G "\0\0\0\x3btx3g\0\0\0\0\0\0\0\1\0\0\0\0\0\0\0\0\0\0\0\0\0\0\0\0\0\0\0\0\0\0\0\1\0\x0c\xff\xff\xff\xff\0\0\0\x0d" "ftab\0\1\0\1\0"
 
+#define LINK "\0\0\0\0\0\x10href\0\0\0\0\1u\1a"
+
 static void judgement(const char *name, CaptionsJudgement j) { printf("%s %u %zu\n", name, j.number, j.place); }
 
 static void step(CaptionsStep s) { printf("step %u %zu %d %x %zu %zu\n", s.number, s.place, s.found, s.kind, s.body, s.next); }
 
 static void cue(CaptionsCue c) {
-    printf("cue %d %d %u %zu %zu %zu %zu %zu %zu %zu\n", c.found, c.named, c.id, c.identifierfrom, c.identifierend, c.settingsfrom,
-           c.settingsend, c.payloadfrom, c.payloadend, c.next);
+    printf("cue %u %zu %d %d %u %zu %zu %zu %zu %zu %zu %zu\n", c.number, c.place, c.found, c.named, c.id, c.identifierfrom,
+           c.identifierend, c.settingsfrom, c.settingsend, c.payloadfrom, c.payloadend, c.next);
+}
+
+static void modifier(CaptionsModifier m) {
+    printf("modifier %u %zu %d %x %u %u %u %u %zu %zu %zu %zu %zu\n", m.number, m.place, m.found, m.kind, m.first, m.second, m.third,
+           m.fourth, m.from, m.end, m.alternativefrom, m.alternativeend, m.next);
 }
 
 static void count(CaptionsCount c) { printf("count %u %zu\n", c.number, c.characters); }
@@ -36,6 +43,8 @@ int main(void) {
     judgement("sample", captions_judge_sample(TEXT(SAMPLE "\0")));
     cue(captions_next_cue(TEXT(SAMPLE), 0));
     cue(captions_next_cue(TEXT(SAMPLE), 30));
+    cue(captions_next_cue(TEXT(SAMPLE "\0"), 30));
+    cue(captions_next_cue(TEXT("\0\0\0\x0avttc\0\0"), 0));
     judgement("entry", captions_judge_wvtt_entry(TEXT("\0\0\0\x1ewvtt\0\0\0\0\0\0\0\1\0\0\0\x0evttCWEBVTT")));
     judgement("entry", captions_judge_wvtt_entry(TEXT("\0\0\0\x10wvtt\0\0\0\0\0\0\0\1")));
     judgement("list", captions_judge_list(90000, 1000, TEXT(RECORD), TEXT("Hi")));
@@ -74,6 +83,10 @@ int main(void) {
     printf("box %u %u %zu %d %zu\n", b.who, b.number, b.place, b.insample, b.offset);
     b = captions_text_box(TEXT(TX3G), TEXT("\0\0\0\0\0\x10tbox\0\0\0\0\0\1\0\1"));
     printf("box %u %u %zu %d %zu\n", b.who, b.number, b.place, b.insample, b.offset);
+    printf("from %zu\n", captions_modifiers_from(TEXT(LINK)));
+    modifier(captions_next_modifier(TEXT(LINK), 2));
+    modifier(captions_next_modifier(TEXT(LINK), 18));
+    modifier(captions_next_modifier(TEXT(LINK "\0"), 18));
     SIZE(CaptionsJudgement);
     AT(CaptionsJudgement, place);
     SIZE(CaptionsCount);
@@ -83,6 +96,7 @@ int main(void) {
     AT(CaptionsStep, kind);
     AT(CaptionsStep, next);
     SIZE(CaptionsCue);
+    AT(CaptionsCue, found);
     AT(CaptionsCue, named);
     AT(CaptionsCue, id);
     AT(CaptionsCue, next);
@@ -97,5 +111,10 @@ int main(void) {
     SIZE(CaptionsTextBox);
     AT(CaptionsTextBox, insample);
     AT(CaptionsTextBox, offset);
+    SIZE(CaptionsModifier);
+    AT(CaptionsModifier, found);
+    AT(CaptionsModifier, kind);
+    AT(CaptionsModifier, from);
+    AT(CaptionsModifier, next);
     return 0;
 }

@@ -2,6 +2,7 @@
 
 use std::path::Path;
 
+use captions::ffi::captions_next_cue;
 use captions_compare::Proved;
 use captions_harness::random::Random;
 use captions_harness::{differential, run_vectors, Model};
@@ -53,8 +54,25 @@ fn any_place_is_answered() {
         if let Ok(Some(found)) = captions::step(&sample, at) {
             assert!(at + 8 == found.body && found.body <= found.next && found.next <= end);
         }
-        let texts = captions::cues(&sample).map(|c| c.identifier.len() + c.payload.len());
-        assert!(texts.sum::<usize>() <= end);
+        walk(&sample);
+    }
+}
+
+/// Walks over the cues of any bytes: texts lie in the sample, and a number that is passed up
+/// is of a sample that is refused.
+fn walk(sample: &[u8]) {
+    let mut from = 0;
+    loop {
+        // SAFETY: pointer and length of a slice.
+        let cue = unsafe { captions_next_cue(sample.as_ptr(), sample.len(), from) };
+        if !cue.found {
+            assert!(cue.number == 0 || captions::cues(sample).is_err());
+            return;
+        }
+        assert!(cue.number == 0 && from < cue.next && cue.next <= sample.len());
+        assert!(cue.identifierfrom <= cue.identifierend && cue.identifierend <= cue.next);
+        assert!(cue.payloadfrom <= cue.payloadend && cue.payloadend <= cue.next);
+        from = cue.next;
     }
 }
 
@@ -63,7 +81,7 @@ fn no_bytes_are_answered() {
     assert!(captions::is_utf8(&[]) && captions::is_payload(&[]));
     assert_eq!(captions::count_characters(&[]), Some(0));
     assert_eq!(captions::step(&[], 0), Ok(None));
-    assert_eq!(captions::cues(&[]).next(), None);
+    assert!(captions::cues(&[]).is_err());
     assert_eq!(captions::judge_track(&[], &[]), Ok(()));
     assert_eq!(captions::judge_list(1000, 1, &[], &[]), Ok(()));
     let refused = captions::judge_sample(&[]).expect_err("no cue");

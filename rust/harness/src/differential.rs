@@ -320,11 +320,10 @@ fn compare_step(pair: &mut Pair, random: &mut Random) -> Compared {
 fn compare_sample(pair: &mut Pair, random: &mut Random) -> Compared {
     let sample = make::wvtt_sample(random);
     pair.judge("judge_sample", &[&sample], |l| l.judge_sample(&sample))?;
-    if captions_model::wvtt::judge_sample(&sample).is_err() {
-        return Ok(());
-    }
-    let cues = |l: &dyn Library| Some(l.cues(&sample)?.into_iter().map(plain_cue).collect());
-    pair.ask("cues", || show(&[], &[&sample]), cues, |_: &Vec<Cue>| 0)
+    pair.judge("cues", &[&sample], |l| {
+        let plain = |cues: Vec<Cue>| cues.into_iter().map(plain_cue).collect::<Vec<_>>();
+        Some(l.cues(&sample)?.map(plain))
+    })
 }
 
 /// An empty part, whose start is free, as one at 0.
@@ -539,14 +538,11 @@ fn compare_tx3g_sample(pair: &mut Pair, random: &mut Random) -> Compared {
             Numbered::number,
         )?;
     }
-    if judged.is_err() {
-        return Ok(());
-    }
-    let ask = |l: &dyn Library| {
-        let modifiers = l.modifiers(&sample)?;
-        Some(modifiers.into_iter().map(plain_modifier).collect())
-    };
-    pair.ask("modifiers", || show(&[], &both), ask, |_: &Vec<Modifier>| 0)
+    pair.judge("modifiers", &both, |l| {
+        let plain =
+            |found: Vec<Modifier>| found.into_iter().map(plain_modifier).collect::<Vec<_>>();
+        Some(l.modifiers(&entry, &sample)?.map(plain))
+    })
 }
 
 /// The first characters and those about the end.

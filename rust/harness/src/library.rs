@@ -81,8 +81,9 @@ pub trait Library {
         None
     }
 
-    /// The cues of a good WebVTT sample from left to right. The start of an empty text is free.
-    fn cues(&self, sample: &[u8]) -> Offered<Vec<Cue>> {
+    /// Judges a WebVTT sample; gives the cues of a good one from left to right. The start of an
+    /// empty text is free.
+    fn cues(&self, sample: &[u8]) -> Offered<Result<Vec<Cue>, Refusal>> {
         None
     }
 
@@ -159,9 +160,13 @@ pub trait Library {
         None
     }
 
-    /// The modifiers of a good `tx3g` sample from left to right, other boxes passed over.
-    /// The start of an empty part is free.
-    fn modifiers(&self, sample: &[u8]) -> Offered<Vec<Modifier>> {
+    /// Judges a `tx3g` entry and sample; gives the modifiers of a good one from left to right,
+    /// other boxes passed over. The start of an empty part is free.
+    fn modifiers(
+        &self,
+        entry: &[u8],
+        sample: &[u8],
+    ) -> Offered<Result<Vec<Modifier>, Tx3gRefusal>> {
         None
     }
 

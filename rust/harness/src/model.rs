@@ -61,8 +61,8 @@ impl Library for Model {
         Some(wvtt::judge_sample(sample))
     }
 
-    fn cues(&self, sample: &[u8]) -> Offered<Vec<Cue>> {
-        Some(wvtt::cues(sample).collect())
+    fn cues(&self, sample: &[u8]) -> Offered<Result<Vec<Cue>, Refusal>> {
+        Some(wvtt::judge_sample(sample).map(|()| wvtt::cues(sample).collect()))
     }
 
     fn judge_wvtt_entry(&self, entry: &[u8]) -> Offered<Result<(), Refusal>> {
@@ -130,8 +130,12 @@ impl Library for Model {
         Some(tx3g::judge_sample(entry, sample))
     }
 
-    fn modifiers(&self, sample: &[u8]) -> Offered<Vec<Modifier>> {
-        Some(tx3g::modifiers(sample).collect())
+    fn modifiers(
+        &self,
+        entry: &[u8],
+        sample: &[u8],
+    ) -> Offered<Result<Vec<Modifier>, Tx3gRefusal>> {
+        Some(tx3g::judge_sample(entry, sample).map(|_| tx3g::modifiers(sample).collect()))
     }
 
     fn style(

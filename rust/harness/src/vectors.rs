@@ -160,11 +160,10 @@ fn run_text(library: &dyn Library, row: &Row) -> Verdict {
 fn run_sample(library: &dyn Library, row: &Row) -> Verdict {
     let sample = row.bytes(0);
     let judged = compare(library.judge_sample(&sample), row.refusal(0));
-    if row.refusal(0).is_err() {
-        return judged;
-    }
-    let cues = library.cues(&sample).map(|cues| cue_field(&sample, &cues));
-    both(judged, compare(cues, row.answers[2].to_string()))
+    let expected = row.refusal(0).map(|()| row.answers[2].to_string());
+    let field = |cues: Vec<Cue>| cue_field(&sample, &cues);
+    let cues = library.cues(&sample).map(|cues| cues.map(field));
+    both(judged, compare(cues, expected))
 }
 
 /// Cues as `ID:identifier:settings:payload`, joined by `,`.
@@ -353,11 +352,10 @@ fn run_foreign_wvtt(
         (_, Some(index)) => {
             let sample = track.sample(index);
             let judged = compare(library.judge_sample(sample), expected);
-            if expected.is_err() {
-                return judged;
-            }
-            let count = library.cues(sample).map(|cues| cues.len() as u64);
-            both(judged, compare(count, number(answers[2])))
+            let expected = expected.map(|()| number(answers[2]));
+            let count = |cues: Vec<Cue>| cues.len() as u64;
+            let count = library.cues(sample).map(|cues| cues.map(count));
+            both(judged, compare(count, expected))
         }
         _ => Verdict::Differs(format!("unknown question {asked}")),
     }

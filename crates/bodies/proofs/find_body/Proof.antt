@@ -24,7 +24,7 @@ got : (c : tie.After-known-told Inv-loop μ-loop) → let v = c .before .t .give
 got c = sym (c .before .before .before .step-at .ensures) ∙ c .before .t .given .1
 
 returns : tie.Need-returns Inv-loop μ-loop
-returns c = sym (body-stop _ _ _ _ _ (sym (c .before .step-at .ensures)) (not-box (c .before .step-at .result) (c .match .keys2))) ∙ c .before .before .loop .inv
+returns c = c .no-body .ensures ∙ sym (body-stop _ _ _ _ _ (sym (c .before .before .step-at .ensures)) (not-box (c .before .before .step-at .result) (c .before .match .keys2))) ∙ c .before .before .before .loop .inv
 
 returns-2 : tie.Need-returns-2 Inv-loop μ-loop
 returns-2 c = sym (body-found _ _ _ _ _ _ _ (got (c .before)) (c .if1 .taken)) ∙ c .before .before .before .before .before .loop .inv
@@ -44,6 +44,7 @@ find-body-spec =
     (λ c. refl)
     (λ c κs. search needs)
     (λ c. search needs)
+    (λ c κs. search needs)
     returns
     returns-2
     loop-less

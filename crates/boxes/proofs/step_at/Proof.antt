@@ -1,29 +1,25 @@
 -- `boxes::step_at` meets its contract: each return is the case of `stepAt` that its tests lead to.
-use borrow.Author.Tests.{le-ltb, lt-ltb, le-leb, lt-leb}
+use mathlib.Core.Path.{sym}
+use native.Mathlib.Omega.{arith}
 use borrow.Author.Needs.{needs}
-use Rattle.boxes.specs.Boxes.{stepAt}
+use Rattle.boxes.proofs.Laws.{step-end, step-short, step-small, step-past, step-whole}
 use Rattle.boxes.proofs.step_at.Statement.{statement}
 use Rattle.boxes.proofs.step_at.Tie as tie
 
 returns : tie.Need-returns
-unfolding stepAt
-returns c = simp (le-leb _ _ (c .if1 .taken))
+returns c = sym (step-end _ _ _ (omega arith))
 
 returns-2 : tie.Need-returns-2
-unfolding stepAt
-returns-2 c = simp (lt-leb _ _ (c .before .before .if1 .left), lt-ltb _ _ (c .before .if2 .taken), c .fault-at .ensures)
+returns-2 c = rw (c .fault-at .ensures) (sym (step-short _ _ _ (omega arith) (omega arith)))
 
 returns-3 : tie.Need-returns-3
-unfolding stepAt
-returns-3 c = simp (lt-leb _ _ (c .before .before .before .before .if1 .left), le-ltb _ _ (c .before .before .before .if2 .left), ← c .before .before .get32 .ensures .0, lt-ltb _ _ (c .before .if3 .taken), c .fault-at2 .ensures)
+returns-3 c = rw (c .fault-at2 .ensures) (sym (step-small _ _ _ (omega arith) (omega arith) (omega arith)))
 
 returns-4 : tie.Need-returns-4
-unfolding stepAt
-returns-4 c = simp (lt-leb _ _ (c .before .before .before .before .before .if1 .left), le-ltb _ _ (c .before .before .before .before .if2 .left), ← c .before .before .before .get32 .ensures .0, le-ltb _ _ (c .before .before .if3 .left), lt-ltb _ _ (c .before .if4 .taken), c .fault-at3 .ensures)
+returns-4 c = rw (c .fault-at3 .ensures) (sym (step-past _ _ _ (omega arith) (omega arith) (omega arith) (omega arith)))
 
 returns-5 : tie.Need-returns-5
-unfolding stepAt
-returns-5 c = simp (lt-leb _ _ (c .before .before .before .before .before .if1 .left), le-ltb _ _ (c .before .before .before .before .if2 .left), ← c .before .before .before .get32 .ensures .0, ← c .get322 .ensures .0, le-ltb _ _ (c .before .before .if3 .left), le-ltb _ _ (c .before .if4 .left))
+returns-5 c = rw (c .before .before .before .get32 .ensures .0, c .get322 .ensures .0) (sym (step-whole _ _ _ (omega arith) (omega arith) (omega arith) (omega arith)))
 
 pub step-at-spec : {M : Type 1} → statement M
 step-at-spec =

@@ -22,7 +22,7 @@ returns-6 : tie.Need-returns-6
 returns-6 c = rw (c .before .before .m6 .given .1) (c .modifier-of6 .ensures)
 
 returns-7 : tie.Need-returns-7
-returns-7 c = rw (c .before .m7 .given .1)
+returns-7 c = rw (c .before .before .m7 .given .1) (c .flat-link .ensures)
 
 returns-8 : tie.Need-returns-8
 returns-8 c = rw (c .before .before .m8 .given .1) (c .modifier-of7 .ensures)
@@ -47,6 +47,7 @@ flat-modifier-spec =
     (λ c. search needs)
     (λ c κs. search needs)
     (λ c. search needs)
+    (λ c κs. search needs)
     (λ c. search needs)
     (λ c κs. search needs)
     (λ c. search needs)

@@ -1,5 +1,5 @@
 use Rattle.conform.proofs.Laws.{from-on, from-differs, matchesFrom, from-first, from-last, from-start}
-use Rattle.wvtt_cues.proofs.Walk.{heldFrom}
+use Rattle.wvtt_cues.specs.Walk.{heldFrom}
 use Rattle.wvtt_cues.specs.Cues.{sampleCues}
 use Rattle.timeline.specs.Checking.{matches}
 use Rattle.cues.specs.List.{cuesOf}

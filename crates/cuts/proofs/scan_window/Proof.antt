@@ -1,6 +1,6 @@
 use Rattle.cuts.proofs.Laws.{near-before, near-more, size-before, size-more, size-after, window-rises}
 use Rattle.cuts.specs.Cuts.{ticksTo, cuesSize}
-use Rattle.timeline.proofs.Nearest.{nearest}
+use Rattle.timeline.specs.Nearest.{nearest}
 use native.Mathlib.Nat.{le-antisymm}
 use mathlib.Core.Path.{_≡_, _∙_, sym, ap}
 use Prim.Native.Nat.{ℕ, _-_, _*_, _≤_}

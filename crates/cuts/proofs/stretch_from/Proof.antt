@@ -1,7 +1,7 @@
 use Rattle.cuts.proofs.Laws.{later-from, near-after}
 use Rattle.cuts.specs.Cuts.{ticksTo}
 use Prim.Native.Nat.{ℕ}
-use Rattle.timeline.proofs.Nearest.{nearest}
+use Rattle.timeline.specs.Nearest.{nearest}
 use mathlib.Core.Path.{_∙_, ap}
 use Rattle.cuts.proofs.stretch_from.Statement.{statement}
 use Rattle.cuts.proofs.stretch_from.Tie as tie

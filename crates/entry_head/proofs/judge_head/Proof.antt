@@ -1,33 +1,28 @@
 -- `entry_head::judge_head` meets its contract: each return is the case of `judgeHead` that its tests lead to.
-use Rattle.entry_head.specs.Head.{judgeHead}
-use borrow.Author.Tests.{le-ltb, lt-ltb, eq-eqb, ne-eqb}
+use mathlib.Core.Path.{_∙_}
+use native.Mathlib.Omega.{arith}
 use borrow.Author.Needs.{needs}
+use Rattle.entry_head.proofs.Laws.{head-fewer, head-past, head-below, head-over, head-other, head-fine}
 use Rattle.entry_head.proofs.judge_head.Statement.{statement}
 use Rattle.entry_head.proofs.judge_head.Tie as tie
 
 returns : tie.Need-returns
-unfolding judgeHead
-returns c = simp (lt-ltb _ _ (c .before .if1 .taken), c .refused .ensures)
+returns c = c .refused .ensures ∙ head-fewer _ _ _ (omega arith)
 
 returns-2 : tie.Need-returns-2
-unfolding judgeHead
-returns-2 c = simp (le-ltb _ _ (c .before .before .before .if1 .left), ← c .before .before .get32 .ensures .0, lt-ltb _ _ (c .before .if2 .taken), c .refused2 .ensures)
+returns-2 c = c .refused2 .ensures ∙ head-past _ _ _ (omega arith) (omega arith)
 
 returns-3 : tie.Need-returns-3
-unfolding judgeHead
-returns-3 c = simp (le-ltb _ _ (c .before .before .before .before .if1 .left), ← c .before .before .before .get32 .ensures .0, le-ltb _ _ (c .before .before .if2 .left), lt-ltb _ _ (c .before .if3 .taken), c .refused3 .ensures)
+returns-3 c = c .refused3 .ensures ∙ head-below _ _ _ (omega arith) (omega arith) (omega arith)
 
 returns-4 : tie.Need-returns-4
-unfolding judgeHead
-returns-4 c = simp (le-ltb _ _ (c .before .before .before .before .before .if1 .left), ← c .before .before .before .before .get32 .ensures .0, le-ltb _ _ (c .before .before .before .if2 .left), le-ltb _ _ (c .before .before .if3 .left), lt-ltb _ _ (c .before .if4 .taken), c .refused4 .ensures)
+returns-4 c = c .refused4 .ensures ∙ head-over _ _ _ (omega arith) (omega arith) (omega arith) (omega arith)
 
 returns-5 : tie.Need-returns-5
-unfolding judgeHead
-returns-5 c = simp (le-ltb _ _ (c .before .before .before .before .before .before .if1 .left), ← c .before .before .before .before .before .get32 .ensures .0, le-ltb _ _ (c .before .before .before .before .if2 .left), le-ltb _ _ (c .before .before .before .if3 .left), le-ltb _ _ (c .before .before .if4 .left), ← c .before .get322 .ensures .0, eq-eqb _ _ (c .if5 .taken))
+returns-5 c = head-fine _ _ _ (omega arith) (omega arith) (omega arith) (omega arith) (omega arith)
 
 returns-6 : tie.Need-returns-6
-unfolding judgeHead
-returns-6 c = simp (le-ltb _ _ (c .before .before .before .before .before .before .before .if1 .left), ← c .before .before .before .before .before .before .get32 .ensures .0, le-ltb _ _ (c .before .before .before .before .before .if2 .left), le-ltb _ _ (c .before .before .before .before .if3 .left), le-ltb _ _ (c .before .before .before .if4 .left), ← c .before .before .get322 .ensures .0, ne-eqb _ _ (c .before .if5 .left), c .refused5 .ensures)
+returns-6 c = c .refused5 .ensures ∙ head-other _ _ _ (omega arith) (omega arith) (omega arith) (omega arith) (λ e. c .before .if5 .left (c .before .before .get322 .ensures .0 ∙ e))
 
 pub judge-head-spec : {M : Type 1} → statement M
 judge-head-spec =

@@ -1,7 +1,8 @@
 use Prim.Native.Nat.{ℕ, _-_, _≤_}
 use mathlib.Core.Path.{_≡_, sym, ap, _∙_, subst}
 use lib.ListN.{length}
-use Rattle.wvtt_cues.proofs.Walk.{heldFrom, Next, Inside, next-means}
+use Rattle.wvtt_cues.specs.Walk.{heldFrom, Next, Inside}
+use Rattle.wvtt_cues.proofs.Walk.{next-means, not-cue, next-none}
 use Rattle.wvtt_cues.specs.Cues.{sampleCues, heldBy}
 use Rattle.timeline.specs.Joining.{takeBody, takeAll}
 use Rattle.boxes.specs.Boxes.{part}
@@ -48,8 +49,8 @@ loop-holds c = (c .before .before .pre .0, c .before .before .pre .1, c .before 
 
 returns : tie.Need-returns Inv-loop μ-loop
 unfolding part
-returns c = let l = c .before .before .before .before .loop in
-    (take-end _ _ _ _ _ _ (l .inv .3) (next-means _ _ _ (sym (c .enum-told .given .1) ∙ c .before .before .next-cue .ensures)), (l .inv .0, l .inv .2))
+returns c = let l = c .before .before .before .loop in
+    (take-end _ _ _ _ _ _ (l .inv .3) (next-none _ _ _ (c .before .next-cue .ensures) (not-cue (c .before .next-cue .result) (c .match .keys2))), (l .inv .0, l .inv .2))
 
 new-row-requires : tie.Need-new-row-requires Inv-loop μ-loop
 new-row-requires c κs = let w = inside c in omega (arith, w .identifier .order, w .identifier .inside, w .settings .order, w .settings .inside, w .payload .order, w .payload .inside, c .before .before .before .before .before .before .before .before .pre .3, c .before .before .before .before .before .before .before .before .pre .4)
@@ -59,7 +60,7 @@ take-cue-requires c κs = let l = c .before .before .before .before .before .bef
     (l .inv .0, l .inv .1, l .inv .2, subst (Placed (length (a .samples .now))) (sym (c .before .new-row .ensures)) (placed-moved (a .at) (a .end) (length (a .samples .now)) (a .b) (a .e) _ (c .before .before .before .before .before .before .before .before .before .before .pre .3) (c .before .before .before .before .before .before .before .before .before .before .pre .4) (inside (c .before .before))))
 
 returns-2 : tie.Need-returns-2 Inv-loop μ-loop
-returns-2 c = let l = c .before .before .before .before .before .before .before .before .before .before .before .before .loop in let q = c .enum-told2 .given .1 in
+returns-2 c = let l = c .before .before .before .before .before .before .before .before .before .before .before .before .loop in let q = c .enum-told .given .1 in
     rw q (take-stop _ _ _ _ _ _ (l .inv .3) _ _ (got (c .before .before .before .before .before .before .before) .held) _ (sym (ap (takingOf _ _) q) ∙ step (c .before .before .before .before)), tt)
 
 loop-less : tie.Need-loop-less Inv-loop μ-loop
@@ -81,7 +82,6 @@ take-sample-spec =
     (λ c. omega arith)
     (λ c. omega arith)
     (λ c κs. search needs)
-    (λ c. omega arith)
     (λ c. omega arith)
     (λ c. omega arith)
     returns

@@ -1,5 +1,6 @@
 -- `input::grow` meets its contract.
-use Rattle.input.specs.Reading.{grown, top}
+use Rattle.input.specs.Line.{top}
+use Rattle.input.specs.Reading.{grown}
 use Rattle.input.proofs.Laws.{digit-from}
 use native.Mathlib.Omega.{arith}
 use borrow.Author.Needs.{needs}

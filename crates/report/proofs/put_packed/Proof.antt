@@ -1,7 +1,7 @@
 -- `report::put_packed` meets its contract.
 use native.Mathlib.Omega.{arith}
 use mathlib.Core.Path.{ap}
-use Rattle.pack.specs.Packing.{countOf}
+use Rattle.pack.specs.Writing.{countOf}
 use borrow.Author.Needs.{needs}
 use Rattle.report.proofs.put_packed.Statement.{statement}
 use Rattle.report.proofs.put_packed.Tie as tie

@@ -1,6 +1,6 @@
 -- `signed::at_most` meets its contract: the order of ranks is that of the signed numbers.
 use Rattle.signed.proofs.Laws.{order-is}
-use Rattle.signed.specs.Signed.{shift16}
+use Rattle.signed.specs.Rank.{shift16}
 use lib.Dec.{leb}
 use mathlib.Core.Path.{sym, ap, ap₂, _∙_}
 use borrow.Author.Needs.{needs}

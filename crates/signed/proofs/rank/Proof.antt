@@ -1,5 +1,5 @@
 -- `signed::rank` meets its contract: each half of the 16-bit numbers.
-use Rattle.signed.specs.Signed.{shift16}
+use Rattle.signed.specs.Rank.{shift16}
 use borrow.Author.Tests.{lt-ltb, le-ltb}
 use native.Mathlib.Omega.{arith}
 use borrow.Author.Needs.{needs}

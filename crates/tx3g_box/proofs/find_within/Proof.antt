@@ -16,7 +16,19 @@ returns-2 : tie.Need-returns-2
 unfolding boxesOf
 returns-2 c = rw (← c .before .before .before .text-end .ensures .0, ← c .before .before .find-body .ensures, c .enum-told .given .1)
 
+returns-3 : tie.Need-returns-3
+unfolding boxesOf
+returns-3 c = rw (← c .before .before .before .text-end .ensures .0, ← c .before .before .find-body .ensures, c .enum-told2 .given .1)
+
 pub find-within-spec : {M : Type 1} → statement M
 find-within-spec =
     tie.close
-    (tie.spec text-end-requires (λ c κs. search needs) (λ c. search needs) (λ c. search needs) returns returns-2)
+    (tie.spec
+    text-end-requires
+    (λ c κs. search needs)
+    (λ c. search needs)
+    (λ c. search needs)
+    (λ c. search needs)
+    returns
+    returns-2
+    returns-3)

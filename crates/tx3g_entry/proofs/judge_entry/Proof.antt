@@ -2,7 +2,6 @@
 use Rattle.tx3g_entry.proofs.Laws.{fixed-fine, boxes-fine}
 use Rattle.tx3g_entry.specs.Entry.{judgeEntry, endEntry}
 use mathlib.Core.Path.{_≡_, sym, _∙_}
-use native.Mathlib.Omega.{arith}
 use borrow.Author.Needs.{needs}
 use Rattle.tx3g_entry.proofs.judge_entry.Statement.{statement}
 use Rattle.tx3g_entry.proofs.judge_entry.Tie as tie
@@ -20,20 +19,20 @@ returns-2 : tie.Need-returns-2
 unfolding judgeEntry
 returns-2 c = simp (← c .before .before .before .before .before .judge-fixed .ensures, c .before .before .before .enum-told .given .1, ← c .before .before .judge-boxes .ensures, c .enum-told4 .given .1)
 
+judge-default-requires : tie.Need-judge-default-requires
+judge-default-requires c κs = (
+  fixed-fine _ (sym (c .before .before .before .before .before .before .before .before .before .judge-fixed .ensures) ∙ c .before .before .before .before .before .before .before .enum-told .given .1),
+  boxes-fine _ _ (sym (c .before .before .before .before .before .before .judge-boxes .ensures) ∙ c .before .before .before .before .enum-told3 .given .1) (sym (c .before .before .before .find-fonts .ensures) ∙ c .before .fonts .given .1),
+)
+
 returns-3 : tie.Need-returns-3
-returns-3 c = c .refused .ensures ∙ sym (rest (c .before .before .before) ∙ rw (c .before .enum-told5 .given .1))
-
-get16-requires : tie.Need-get16-requires
-get16-requires c κs = let w = fixed-fine _ (sym (c .before .before .before .before .before .before .before .before .before .judge-fixed .ensures) ∙ c .before .before .before .before .before .before .before .enum-told .given .1) in omega arith
-
-has-font-requires : tie.Need-has-font-requires
-has-font-requires c κs = boxes-fine _ _ (sym (c .before .before .before .before .before .before .before .judge-boxes .ensures) ∙ c .before .before .before .before .before .enum-told3 .given .1) (sym (c .before .before .before .before .find-fonts .ensures) ∙ c .before .before .t .given .1)
+returns-3 c = c .judge-default .ensures ∙ sym (rest (c .before .before .before .before) ∙ rw (c .before .before .fonts .given .1))
 
 returns-4 : tie.Need-returns-4
-returns-4 c = sym (rest (c .before .before .before .before .before .before) ∙ rw (c .before .before .before .before .t .given .1, ← c .before .before .get16 .ensures .0, ← c .before .has-font .ensures, c .if1 .taken))
+returns-4 c = sym (rest (c .before .before .before) ∙ rw (c .before .why .given .1))
 
 returns-5 : tie.Need-returns-5
-returns-5 c = c .refused2 .ensures ∙ sym (rest (c .before .before .before .before .before .before .before) ∙ rw (c .before .before .before .before .before .t .given .1, ← c .before .before .before .get16 .ensures .0, ← c .before .before .has-font .ensures, c .before .if1 .left))
+returns-5 c = c .refused .ensures ∙ sym (rest (c .before .before .before) ∙ rw (c .before .enum-told5 .given .1))
 
 pub judge-entry-spec : {M : Type 1} → statement M
 judge-entry-spec =
@@ -49,11 +48,10 @@ judge-entry-spec =
     returns-2
     (λ c κs. search needs)
     (λ c. search needs)
+    judge-default-requires
+    (λ c. search needs)
     (λ c. search needs)
     (λ c κs. search needs)
     returns-3
-    get16-requires
-    has-font-requires
     returns-4
-    (λ c κs. search needs)
     returns-5)

@@ -24,7 +24,7 @@ got : (c : tie.After-known-told Inv-loop μ-loop) → let v = c .before .t .give
 got c = sym (c .before .before .before .step-at .ensures) ∙ c .before .t .given .1
 
 returns : tie.Need-returns Inv-loop μ-loop
-returns c = sym (next-stop _ _ _ _ (sym (c .before .step-at .ensures)) (not-box (c .before .step-at .result) (c .match .keys2))) ∙ c .before .before .loop .inv
+returns c = c .held-end .ensures ∙ sym (next-stop _ _ _ _ (sym (c .before .before .step-at .ensures)) (not-box (c .before .before .step-at .result) (c .before .match .keys2))) ∙ c .before .before .before .loop .inv
 
 is-whole-requires : tie.Need-is-whole-requires Inv-loop μ-loop
 is-whole-requires c κs = let w = step-box _ _ _ _ _ _ (got c) in (w .order, w .inside)
@@ -50,6 +50,7 @@ next-modifier-spec =
     (λ c. refl)
     (λ c κs. search needs)
     (λ c. search needs)
+    (λ c κs. search needs)
     returns
     is-whole-requires
     read-modifier-requires

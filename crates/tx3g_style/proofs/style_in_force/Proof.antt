@@ -23,11 +23,14 @@ read-style-requires : tie.Need-read-style-requires
 read-style-requires c κs = let w = default-lies _ _ _ (c .before .before .before .before .before .before .pre) in omega arith
 
 returns : tie.Need-returns
-returns c = rw (← where-styles (c .before .before .before .before), c .before .before .t .given .1) (c .search-styles .ensures)
+returns c = rw (← where-styles (c .before .before .before .before), c .before .before .t .given .1, c .search-styles .ensures)
 
 returns-2 : tie.Need-returns-2
+returns-2 c = rw (← where-styles (c .before .before .before), c .before .t2 .given .1)
+
+returns-3 : tie.Need-returns-3
 unfolding defaultStyle
-returns-2 c = rw (← where-styles (c .before .before .before), c .before .enum-told .given .1) (c .read-style .ensures)
+returns-3 c = rw (← where-styles (c .before .before .before), c .before .enum-told .given .1, c .read-style .ensures)
 
 pub style-in-force-spec : {M : Type 1} → statement M
 style-in-force-spec =
@@ -38,6 +41,8 @@ style-in-force-spec =
     (λ c. search needs)
     search-styles-requires
     (λ c. search needs)
+    (λ c. search needs)
     read-style-requires
     returns
-    returns-2)
+    returns-2
+    returns-3)

@@ -5,7 +5,7 @@ use Rattle.tx3g_style.proofs.style_within.Statement.{statement}
 use Rattle.tx3g_style.proofs.style_within.Tie as tie
 
 returns : tie.Need-returns
-returns c = rw (lt-ltb _ _ (c .before .if1 .taken), c .style-in-force .ensures)
+returns c = rw (lt-ltb _ _ (c .before .if1 .taken)) (c .style-in-force .ensures)
 
 returns-2 : tie.Need-returns-2
 returns-2 c = rw (le-ltb _ _ (c .before .if1 .left), c .fault-at .ensures)

@@ -1,13 +1,14 @@
 -- `wvtt_cues::next_cue` meets its contract. The invariant: the first cue of what is left is the answer.
 use Rattle.wvtt_cues.proofs.Laws.{next-stop, next-found, next-other}
-use Rattle.wvtt_cues.specs.Cues.{nextCue}
+use Rattle.wvtt_cues.specs.declared.Inner.{Inner}
+use Rattle.wvtt_cues.specs.Cues.{cueBy, nextCue}
 use Rattle.boxes.proofs.Laws.{step-box, not-box}
 use Rattle.boxes.specs.declared.Step.the-variants.{Box}
 use Rattle.boxes.specs.Boxes.{boxesIn, stepAt}
 use lib.ListN.{length}
 use borrow.Author.Needs.{needs}
 use native.Mathlib.Omega.{arith}
-use mathlib.Core.Path.{_≡_, refl, sym, _∙_}
+use mathlib.Core.Path.{_≡_, refl, sym, ap, _∙_}
 use Prim.Native.Nat.{_-_}
 use Rattle.wvtt_cues.proofs.next_cue.Statement.{statement}
 use Rattle.wvtt_cues.proofs.next_cue.Tie as tie
@@ -24,13 +25,16 @@ got : (c : tie.After-known-told Inv-loop μ-loop) → let v = c .before .t .give
 got c = sym (c .before .before .before .step-at .ensures) ∙ c .before .t .given .1
 
 returns : tie.Need-returns Inv-loop μ-loop
-returns c = sym (next-stop _ _ _ _ (sym (c .before .step-at .ensures)) (not-box (c .before .step-at .result) (c .match .keys2))) ∙ c .before .before .loop .inv
+returns c = c .held-end .ensures ∙ sym (next-stop _ _ _ _ (sym (c .before .before .step-at .ensures)) (not-box (c .before .before .step-at .result) (c .before .match .keys2))) ∙ c .before .before .before .loop .inv
 
 read-parts-requires : tie.Need-read-parts-requires Inv-loop μ-loop
 read-parts-requires c κs = step-box _ _ _ _ _ _ (got (c .before)) .inside
 
 returns-2 : tie.Need-returns-2 Inv-loop μ-loop
-returns-2 c = rw (c .read-parts .ensures) (sym (next-found _ _ _ _ _ _ (got (c .before .before)) (c .before .if1 .taken)) ∙ c .before .before .before .before .before .before .loop .inv)
+returns-2 c = c .held-cue .ensures
+    ∙ ap (λ (x : Inner). cueBy x (c .before .before .before .before .t .given .0 .1 .1 .0)) (c .before .read-parts .ensures)
+    ∙ sym (next-found _ _ _ _ _ _ (got (c .before .before .before)) (c .before .before .if1 .taken))
+    ∙ c .before .before .before .before .before .before .before .loop .inv
 
 loop-less : tie.Need-loop-less Inv-loop μ-loop
 loop-less c = let w = step-box _ _ _ _ _ _ (got (c .before)) in omega arith
@@ -47,8 +51,10 @@ next-cue-spec =
     (λ c. refl)
     (λ c κs. search needs)
     (λ c. search needs)
+    (λ c κs. search needs)
     returns
     read-parts-requires
+    (λ c κs. search needs)
     returns-2
     loop-less
     loop-again)

@@ -1,5 +1,5 @@
 -- `wvtt_cues::place_box` meets its contract: each part is placed by itself.
-use Rattle.wvtt_cues.specs.Cues.{placesOf}
+use Rattle.wvtt_cues.specs.Terms.{placesOf}
 use borrow.Author.Needs.{needs}
 use Rattle.wvtt_cues.proofs.place_box.Statement.{statement}
 use Rattle.wvtt_cues.proofs.place_box.Tie as tie

@@ -26,11 +26,11 @@ loop-holds : tie.Need-loop-holds Inv-loop μ-loop
 unfolding nowhere
 loop-holds c = kept-start _ _ _
 
-name-parts-requires : tie.Need-name-parts-requires Inv-loop μ-loop
-name-parts-requires c κs = c .before .before .loop .inv .inside
+end-parts-requires : tie.Need-end-parts-requires Inv-loop μ-loop
+end-parts-requires c κs = c .before .before .loop .inv .inside
 
 returns : tie.Need-returns Inv-loop μ-loop
-returns c = c .name-parts .ensures ∙ kept-stop _ _ _ _ _ _ (sym (c .before .before .step-at .ensures)) (not-box (c .before .before .step-at .result) (c .before .match .keys2)) (c .before .before .before .loop .inv)
+returns c = c .end-parts .ensures ∙ kept-stop _ _ _ _ _ _ (sym (c .before .before .step-at .ensures)) (not-box (c .before .before .step-at .result) (c .before .match .keys2)) (c .before .before .before .loop .inv)
 
 loop-less : tie.Need-loop-less Inv-loop μ-loop
 loop-less c = let w = step-box _ _ _ _ _ _ (got (c .before)) in omega arith
@@ -48,7 +48,7 @@ read-parts-spec =
     loop-holds
     (λ c κs. search needs)
     (λ c. search needs)
-    name-parts-requires
+    end-parts-requires
     returns
     (λ c κs. search needs)
     loop-less

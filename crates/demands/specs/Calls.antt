@@ -1,0 +1,29 @@
+-- Calls of the three operations: what they were lent, what they answered, and what their outputs hold afterwards. Each record is the contract of its function;
+-- src/lib.rt has it proved of the function itself. The demands below are about every call.
+use Prim.Native.Nat.{ℕ}
+use mathlib.Core.Path.{_≡_}
+use mathlib.Core.List.{List}
+use lib.ListN.{length}
+use Rattle.verdict.specs.declared.Verdict.{Verdict}
+use Rattle.pack.specs.declared.Packed.{Packed}
+use Rattle.pack.specs.Packing.{packedTrack, tableBytes, samplesBytes, packedOf, after}
+use Rattle.conform.specs.Conformance.{conformance}
+use Rattle.unpack_write.specs.Records.{recordsOf, poolOf}
+use Rattle.unpack.specs.declared.Unpacked.{Unpacked}
+use Rattle.unpack.specs.Unpacking.{trackCues, unpackOf, outOf}
+
+-- `pack::pack`, which is lent a table and samples to write
+pub record PackCall (scale T : ℕ) (records pool table samples tableAfter samplesAfter : List ℕ) (answer : Packed) : Type 0 where
+  pub answers : answer ≡ packedOf scale T records pool (length table) (length samples)
+  pub table-holds : tableAfter ≡ after answer (tableBytes (packedTrack scale T records pool)) table
+  pub samples-hold : samplesAfter ≡ after answer (samplesBytes (packedTrack scale T records pool)) samples
+
+-- `conform::check_track`, which writes nothing
+pub record CheckCall (scale T : ℕ) (records pool table samples : List ℕ) (answer : Verdict) : Type 0 where
+  pub answers : answer ≡ conformance scale T records pool table samples
+
+-- `unpack::unpack`, which is lent records and a pool to write
+pub record UnpackCall (scale : ℕ) (table samples records pool recordsAfter poolAfter : List ℕ) (answer : Unpacked) : Type 0 where
+  pub answers : answer ≡ unpackOf scale table samples (length records) (length pool)
+  pub records-hold : recordsAfter ≡ outOf answer (recordsOf scale (trackCues table samples)) records
+  pub pool-holds : poolAfter ≡ outOf answer (poolOf (trackCues table samples)) pool
