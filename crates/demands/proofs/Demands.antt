@@ -1,40 +1,32 @@
 -- Proofs of the demands from the laws of the crates below.
-use Prim.Native.Nat.{ℕ, zero, suc, _+_, _/_, _<_, _≤_}
+use Prim.Native.Nat.{ℕ}
 use mathlib.Core.Path.{_≡_, refl, sym, ap, ap₂, _∙_, subst}
 use mathlib.Core.List.{List}
-use mathlib.Core.Option.{some}
 use native.Mathlib.Omega.{arith}
-use lib.ListN.{length, take, drop, getD}
-use Rattle.base.specs.Over.{over}
+use lib.ListN.{length, take, drop}
 use Rattle.base.proofs.Over.{take-over, drop-over}
-use Rattle.verdict.specs.declared.Verdict.{Verdict}
 use Rattle.verdict.specs.declared.Verdict.the-variants.{Fine}
 use Rattle.verdict.proofs.Judgement.{both-fine}
-use Rattle.times.specs.Times.{tick, back}
-use Rattle.timeline.specs.Cues.{Cue}
-use Rattle.timeline.specs.Tracks.{Sample, Right}
+use Rattle.times.specs.Times.{tick}
+use Rattle.timeline.specs.Tracks.{Right}
 use Rattle.timeline.specs.Packing.{packed}
-use Rattle.timeline.specs.Checking.{accepted, wrong, short, Bad, Good}
-use Rattle.timeline.specs.Unpacking.{noCue, ListOf, unpack, done}
+use Rattle.timeline.specs.Checking.{accepted, wrong, short}
 use Rattle.timeline.proofs.Answers.{good-not-bad, not-bad-good}
 use Rattle.timeline.proofs.Packed.{honest-right}
 use Rattle.timeline.proofs.Fewest.{fewest}
-use Rattle.timeline.proofs.Complete.{unpacks-iff}
-use Rattle.records.specs.Records.{count}
 use Rattle.cues.specs.Judgement.{judgeList}
 use Rattle.cues.specs.List.{cuesOf}
 use Rattle.cues.proofs.Sound.{fine-proper}
-use Rattle.track.specs.Track.{rowCount, durationOf, sampleOf, trackOf, judgeTrack, Readable}
+use Rattle.track.specs.Track.{rowCount, trackOf, judgeTrack, Readable}
 use Rattle.track.proofs.Laws.{fine-readable, readable-fine}
-use Rattle.track.proofs.Samples.{length-track, rows-positive, positive-rows, track-positive}
-use Rattle.pack.specs.declared.Packed.{Packed}
+use Rattle.track.proofs.Samples.{length-track, rows-positive, positive-rows}
 use Rattle.pack.specs.declared.Packed.the-variants.{Done}
 use Rattle.pack.specs.Packing.{packedTrack, tableBytes, samplesBytes}
 use Rattle.pack.proofs.Answers.{packs, done-means}
-use Rattle.pack.proofs.Track.{packed-is-right, samples-most, reads-back, packed-readable, packed-fine}
+use Rattle.pack.proofs.Track.{packed-is-right, samples-most, reads-back, packed-readable}
 use Rattle.conform.specs.Conformance.{conformance}
 use Rattle.conform.proofs.Exactly.{answers-exactly}
-use Rattle.demands.specs.Calls.{PackCall, CheckCall}
+use Rattle.demands.specs.Calls.{PackCall}
 use Rattle.demands.specs.Packing.{Written, PackingWrites, RefusedPackingKeeps, PackingIsDone}
 use Rattle.demands.specs.Checking.{Conforms, AcceptsExactly, DiffersExactly, EndsEarlyExactly, HonestPasses, OwnPasses, FewestSamples}
 
@@ -67,12 +59,12 @@ module _ (scale T : ℕ) (records pool table samples tableAfter samplesAfter : L
   unfolding packedTrack
   track-right = subst (Right (cuesOf scale records pool) (tick scale T)) (sym track-is) (packed-is-right scale T records pool fine)
 
-  pub count-is : n ≡ length (packedTrack scale T records pool)
-  count-is = done-means scale T records pool (length table) (length samples) n t b (sym (c .answers)) .samples-are
+  pub samples-counted : n ≡ length (packedTrack scale T records pool)
+  samples-counted = done-means scale T records pool (length table) (length samples) n t b (sym (c .answers)) .samples-are
 
   pub rows-are : n ≡ rowCount (take t tableAfter)
   unfolding packedTrack
-  rows-are = omega (arith, count-is, ap length track-is, length-track (take t tableAfter) (take b samplesAfter))
+  rows-are = omega (arith, samples-counted, ap length track-is, length-track (take t tableAfter) (take b samplesAfter))
 
   written : Written scale T records pool (take t tableAfter) (take b samplesAfter) n t b
   unfolding packedTrack
@@ -88,7 +80,7 @@ module _ (scale T : ℕ) (records pool table samples tableAfter samplesAfter : L
         read = track-is;
         right = track-right;
         counted = rows-are;
-        few = omega (arith, count-is, samples-most scale T records pool fine);
+        few = omega (arith, samples-counted, samples-most scale T records pool fine);
       }
 
   kept : (drop t tableAfter ≡ drop t table) × (drop b samplesAfter ≡ drop b samples)
@@ -175,7 +167,7 @@ fewest-samples scale T records pool table samples tableAfter samplesAfter n t b 
     let w = accepts-exactly scale T records pool others bytes Fine c .0 refl .1 in
     omega (
       arith,
-      count-is scale T records pool table samples tableAfter samplesAfter n t b p,
+      samples-counted scale T records pool table samples tableAfter samplesAfter n t b p,
       length-track others bytes,
       fewest (cuesOf scale records pool) (tick scale T) (trackOf others bytes) (fine-proper scale T records pool f) (conforms-right scale T records pool others bytes w),
     )

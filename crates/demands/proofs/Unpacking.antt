@@ -1,46 +1,36 @@
 -- Proofs of the demands on unpacking.
 use Prim.Native.Nat.{ℕ, zero, suc, _+_, _/_, _<_, _≤_}
 use mathlib.Core.Path.{_≡_, refl, sym, ap, ap₂, _∙_, subst}
-use mathlib.Core.Bool.{true}
 use mathlib.Core.List.{List, _++_}
 use mathlib.Core.Option.{some}
 use native.Mathlib.Omega.{arith}
 use lib.ListN.{length, take, drop, getD, length-append, length-take, length-drop}
-use Rattle.base.specs.Over.{over}
 use Rattle.base.proofs.Over.{take-over, drop-over}
-use Rattle.verdict.specs.declared.Verdict.{Verdict}
 use Rattle.verdict.specs.declared.Verdict.the-variants.{Fine}
 use borrow.Author.Tests.{le-ltb, lt-leb}
 use Rattle.verdict.proofs.Judgement.{each-all}
-use Rattle.times.specs.Times.{back, Limits, scaleAllowed, timelineAllowed}
+use Rattle.times.specs.Times.{back}
 use Rattle.times.proofs.Laws.{limits-timeline}
-use Rattle.base.proofs.Choice.{both-left}
 use Rattle.timeline.specs.Cues.{Body, Cue}
-use Rattle.timeline.specs.Unpacking.{noCue, ListOf, Unpacked as Listing, unpack, stopped, done}
+use Rattle.timeline.specs.Unpacking.{noCue, ListOf, done}
 use Rattle.timeline.proofs.Complete.{unpacks-iff}
-use Rattle.records.specs.Records.{count, sourceId, startMs, endMs, textOffset, identifierLength, settingsLength, payloadLength, settingsOffset, payloadOffset, textsEnd, piece, identifierOf, settingsOf, payloadOf}
+use Rattle.records.specs.Records.{count, textOffset, identifierLength, settingsLength, payloadLength, settingsOffset, payloadOffset, textsEnd, piece, identifierOf, settingsOf, payloadOf}
 use Rattle.cues.specs.Judgement.{judgeList}
 use Rattle.cues.specs.List.{bodyOf, cueOf, cuesOf}
 use Rattle.cues.proofs.Sound.{fine-sound, length-cues}
-use Rattle.track.specs.Track.{trackOf, judgeTrack}
+use Rattle.track.specs.Track.{trackOf}
 use Rattle.track.proofs.Laws.{fine-readable, readable-fine}
 use Rattle.track.proofs.Samples.{track-positive, positive-rows}
-use Rattle.pack.specs.declared.Packed.the-variants.{Done as PackDone}
-use Rattle.conform.specs.Conformance.{answered, conformance}
+use Rattle.conform.specs.Conformance.{conformance}
 use Rattle.unpack_write.specs.Records.{idOf, textsOf, poolTo, recordsOf, poolOf}
-use Rattle.unpack.specs.declared.Unpacked.{Unpacked}
 use Rattle.unpack.specs.declared.Unpacked.the-variants.{Done}
 use Rattle.unpack.specs.Unpacking.{trackCues, trackMs, badTimes, judgeTimes, judgeEnd, doneWith, unpackOf}
 use Rattle.unpack.proofs.Laws.{list-done}
 use Rattle.unpack_laws.proofs.Reading.{length-recs, count-recs, id-read, start-read, end-read, offset-read, identifier-read, settings-read, payload-read, identifier-is, settings-is, payload-is}
-use Rattle.unpack_laws.proofs.Theorems.{success, won, listed-so, fits, given-at, unpacked-fine, check-accepts, comes-back, same-record, same-length}
-use Rattle.demands.specs.Calls.{PackCall, CheckCall, UnpackCall}
+use Rattle.unpack_laws.proofs.Theorems.{scale-fine, success, listed-so, fits, given-at, unpacked-fine, check-accepts, comes-back, same-record, same-length}
+use Rattle.demands.specs.Calls.{UnpackCall}
 use Rattle.demands.specs.Unpacking.{SameCues, textBytes, ComesBack, TrackList, UnpackingWrites, UnpackingIsDone, RefusedUnpackingKeeps, UnpackedIsFine, UnpackedPasses}
 use Rattle.demands.proofs.Demands.{fine, track-is, track-readable, track-right}
-
-limits-scale : (scale T : ℕ) → Limits scale T → scaleAllowed scale ≡ true
-unfolding timelineAllowed
-limits-scale scale T l = both-left (scaleAllowed scale) _ (limits-timeline scale T l)
 
 -- ---- what a call that is done has written
 
@@ -139,7 +129,7 @@ unpacking-is-done scale table samples records pool recordsAfter poolAfter answer
     let w = times i l in
     rw (le-ltb 359999999 (back scale (getD cs i noCue .start)) (omega (arith, w .0, w .1)), le-ltb 359999999 (back scale (getD cs i noCue .end)) (w .1), lt-leb (back scale (getD cs i noCue .end)) (back scale (getD cs i noCue .start)) (w .0)) in
     c .answers
-    ∙ sym (list-done scale table samples a b (limits-scale scale _ limits) reads cs (sym u))
+    ∙ sym (list-done scale table samples a b (scale-fine scale _ limits) reads cs (sym u))
     ∙ (rw (each-all (judgeTimes scale cs) (length cs) good, limits-timeline scale _ limits, le-ltb a (length (recordsOf scale cs)) ra, le-ltb b (length (poolOf cs)) rb))
 
 pub refused-unpacking-keeps : RefusedUnpackingKeeps

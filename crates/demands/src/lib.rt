@@ -6,6 +6,7 @@ use unpack::Unpacked;
 use verdict::Verdict;
 ghost use Rattle.demands.specs.Calls.{PackCall, CheckCall, UnpackCall};
 
+// Packing.
 pub fn pack_list(
     scale: u32,
     t: u32,
@@ -19,6 +20,7 @@ pub fn pack_list(
     pack::pack(scale, t, records, pool, &mut *table, &mut *samples)
 }
 
+// The check of a track against a list.
 pub fn check_list(
     scale: u32,
     t: u32,
@@ -32,6 +34,7 @@ pub fn check_list(
     check_track(scale, t, records, pool, table, samples)
 }
 
+// Unpacking.
 pub fn unpack_track(
     scale: u32,
     table: &[u8],

@@ -1,13 +1,11 @@
 -- What packing's answers mean.
-use Prim.Native.Nat.{ℕ, _≤_, _<_}
+use Prim.Native.Nat.{ℕ, _≤_}
 use mathlib.Core.Path.{_≡_, refl, _∙_}
 use mathlib.Core.List.{List}
 use native.Mathlib.Omega.{arith}
-use lib.ListN.{length, take, drop}
-use lib.Seq.{take-at}
+use lib.ListN.{length}
 use borrow.Author.Tests.{lt-ltb, le-ltb}
 use Rattle.base.proofs.Choice.{either}
-use Rattle.base.specs.Over.{over}
 use Rattle.verdict.specs.declared.Refusal.{Refusal}
 use Rattle.verdict.specs.declared.Verdict.{Verdict}
 use Rattle.verdict.specs.declared.Verdict.the-variants.{Fine, Refused as Faulty}
@@ -17,11 +15,6 @@ use Rattle.pack.specs.declared.Packed.the-variants.{Done, Refused}
 use Rattle.pack.specs.Packing.{packedTrack, tableBytes, samplesBytes, roomed, packedOf}
 use Rattle.pack.specs.Statements.{Packs, TableTooLong, SamplesTooLong}
 use Rattle.pack.proofs.Laws.{fine-packed, faulty-packed}
-
--- the front of an output is what was written
-pub front-is : (p d : List ℕ) → take (length p) (over p d) ≡ p
-unfolding over
-front-is p d = take-at p (drop (length p) d) (length p) refl
 
 pub packs : Packs
 unfolding roomed

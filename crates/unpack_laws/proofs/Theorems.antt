@@ -228,7 +228,7 @@ piece-most : (pool : List ℕ) (from n : ℕ) → length (piece pool from n) ≤
 unfolding piece
 piece-most pool from n = rw length-take (omega arith)
 
-scale-fine : (scale T : ℕ) → Limits scale T → scaleAllowed scale ≡ true
+pub scale-fine : (scale T : ℕ) → Limits scale T → scaleAllowed scale ≡ true
 unfolding timelineAllowed
 scale-fine scale T l = both-left (scaleAllowed scale) _ (limits-timeline scale T l)
 
