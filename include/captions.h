@@ -1,7 +1,7 @@
 /* WebVTT (wvtt) and 3GPP text (tx3g) samples and sample entries, cue lists and tracks.
  *
  * Bytes are lent as a pointer, which is not null even where the length is 0, and a length. An output overlaps nothing else that is lent.
- * Every refusal gives a number and, but for a count, a place, and writes nothing; on success bytes past the result keep their content. What an answer
+ * Every refusal gives a number, a place and an offset, and writes nothing; on success bytes past the result keep their content. What an answer
  * leaves free is 0. Nothing is allocated, and nothing is kept after a call. */
 #ifndef CAPTIONS_H
 #define CAPTIONS_H
@@ -22,7 +22,7 @@ enum {
     CAPTIONS_KIND_TWICE = 3,
     CAPTIONS_BOX_MISSING = 4,   /* payl, vttC, ftab or every cue; a sample of size 0 */
     CAPTIONS_NOT_ALONE = 5,     /* vtte beside vttc, or a second vtte */
-    CAPTIONS_BAD_TEXT = 6,
+    CAPTIONS_BAD_TEXT = 6,      /* the offset says where */
     CAPTIONS_BAD_RANGE = 7,     /* range, box or style order; k past the text */
     CAPTIONS_BAD_VALUE = 8,     /* ID, font, justification, wrap, reserved bytes */
     CAPTIONS_PAST_LIMIT = 9,
@@ -36,21 +36,23 @@ enum {
     CAPTIONS_NO_ID = 17         /* a cue without ID, in unpacking */
 };
 
-/* The place is a byte of a sample or an entry, or the index of a record or a sample. */
-typedef struct CaptionsJudgement {
+/* Why and where. Number 0 says that nothing is wrong. The place is a byte of a sample or an entry, or the index of a record or a sample.
+   The offset says where a text is bad, counted from the text's start: at the first byte after which no continuation could be right, or at
+   the text's length where it ends too early. Of a record's texts the first bad one counts. Beside every number but 6 the offset is 0. */
+typedef struct CaptionsRefusal {
     uint32_t number;
     size_t place;
-} CaptionsJudgement;
+    size_t offset;
+} CaptionsRefusal;
 
 typedef struct CaptionsCount {
-    uint32_t number;
+    CaptionsRefusal refusal;
     size_t characters;
 } CaptionsCount;
 
 /* A box, a refusal, or at the end neither: number 0 and nothing found. */
 typedef struct CaptionsStep {
-    uint32_t number;
-    size_t place;
+    CaptionsRefusal refusal;
     bool found;
     uint32_t kind; /* the type's four bytes, big-endian */
     size_t body;   /* where the body begins */
@@ -60,8 +62,7 @@ typedef struct CaptionsStep {
 /* A cue, a refusal, or at the end neither: number 0 and nothing found. A cue's texts go from a byte of the sample to before another; a text
    that is not there is empty. */
 typedef struct CaptionsCue {
-    uint32_t number;
-    size_t place;
+    CaptionsRefusal refusal;
     bool found;
     bool named; /* whether it has an ID */
     uint32_t id;
@@ -74,14 +75,14 @@ typedef struct CaptionsCue {
     size_t next; /* from where to look for the next cue */
 } CaptionsCue;
 
-/* Text: UTF-8; an identifier or settings; a payload; a vttC body; a vlab body. Lengths are not judged. */
-bool captions_is_utf8(const uint8_t *text, size_t text_len);
-bool captions_is_identifier(const uint8_t *text, size_t text_len);
-bool captions_is_payload(const uint8_t *text, size_t text_len);
-bool captions_is_configuration(const uint8_t *text, size_t text_len);
-bool captions_is_label(const uint8_t *text, size_t text_len);
+/* Text: UTF-8; an identifier or settings; a payload; a vttC body; a vlab body. 6 for bad text, place 0. Lengths are not judged. */
+CaptionsRefusal captions_judge_utf8(const uint8_t *text, size_t text_len);
+CaptionsRefusal captions_judge_identifier(const uint8_t *text, size_t text_len);
+CaptionsRefusal captions_judge_payload(const uint8_t *text, size_t text_len);
+CaptionsRefusal captions_judge_configuration(const uint8_t *text, size_t text_len);
+CaptionsRefusal captions_judge_label(const uint8_t *text, size_t text_len);
 
-/* The characters of a tx3g text, UTF-8 or UTF-16 after FE FF; 6 for bad text. */
+/* The characters of a tx3g text, UTF-8 or UTF-16 after FE FF; 6 for bad text, place 0. */
 CaptionsCount captions_count_characters(const uint8_t *text, size_t text_len);
 
 /* The box at `at` in a container that ends with the bytes. */
@@ -94,21 +95,20 @@ uint64_t captions_ms(uint32_t scale, uint64_t tick);
 /* A WebVTT sample; and its first cue from `from` on: 0, or the `next` of the cue before. The walk gives 1 or 2 for a bad header
    before the cue or among its boxes, and judges nothing else: of a sample that captions_judge_sample refuses for another reason, the last
    box of a kind counts, and a vsid that is not 4 bytes counts as none. */
-CaptionsJudgement captions_judge_sample(const uint8_t *sample, size_t sample_len);
+CaptionsRefusal captions_judge_sample(const uint8_t *sample, size_t sample_len);
 CaptionsCue captions_next_cue(const uint8_t *sample, size_t sample_len, size_t from);
 
-CaptionsJudgement captions_judge_wvtt_entry(const uint8_t *entry, size_t entry_len);
+CaptionsRefusal captions_judge_wvtt_entry(const uint8_t *entry, size_t entry_len);
 
 /* A cue list: 24-byte records, and the pool of their texts, on a timeline of t ms. */
-CaptionsJudgement captions_judge_list(uint32_t scale, uint32_t t, const uint8_t *records, size_t records_len, const uint8_t *pool,
-                                      size_t pool_len);
+CaptionsRefusal captions_judge_list(uint32_t scale, uint32_t t, const uint8_t *records, size_t records_len, const uint8_t *pool,
+                                    size_t pool_len);
 
 /* A track: 8-byte table records, and the samples back to back. */
-CaptionsJudgement captions_judge_track(const uint8_t *table, size_t table_len, const uint8_t *samples, size_t samples_len);
+CaptionsRefusal captions_judge_track(const uint8_t *table, size_t table_len, const uint8_t *samples, size_t samples_len);
 
 typedef struct CaptionsPacked {
-    uint32_t number;
-    size_t place;
+    CaptionsRefusal refusal;
     size_t samples; /* the number of samples */
     size_t tablebytes;
     size_t samplebytes;
@@ -119,8 +119,7 @@ CaptionsPacked captions_pack(uint32_t scale, uint32_t t, const uint8_t *records,
                              uint8_t *table, size_t table_len, uint8_t *samples, size_t samples_len);
 
 typedef struct CaptionsUnpacked {
-    uint32_t number;
-    size_t place;
+    CaptionsRefusal refusal;
     size_t recordbytes;
     size_t poolbytes;
     uint32_t t; /* in ms */
@@ -131,23 +130,21 @@ CaptionsUnpacked captions_unpack(uint32_t scale, const uint8_t *table, size_t ta
                                  uint8_t *records, size_t records_len, uint8_t *pool, size_t pool_len);
 
 /* Whether a track shows the list's cues at every tick: 16 with the first wrong sample, or the sample count where it ends early. */
-CaptionsJudgement captions_check(uint32_t scale, uint32_t t, const uint8_t *records, size_t records_len, const uint8_t *pool,
-                                 size_t pool_len, const uint8_t *table, size_t table_len, const uint8_t *samples, size_t samples_len);
+CaptionsRefusal captions_check(uint32_t scale, uint32_t t, const uint8_t *records, size_t records_len, const uint8_t *pool,
+                               size_t pool_len, const uint8_t *table, size_t table_len, const uint8_t *samples, size_t samples_len);
 
 /* Who is at fault. */
 enum { CAPTIONS_NOBODY = 0, CAPTIONS_ENTRY = 1, CAPTIONS_SAMPLE = 2 };
 
 typedef struct CaptionsTx3g {
+    CaptionsRefusal refusal;
     uint32_t who;
-    uint32_t number;
-    size_t place;
     size_t characters;
 } CaptionsTx3g;
 
 typedef struct CaptionsStyle {
+    CaptionsRefusal refusal;
     uint32_t who;
-    uint32_t number;
-    size_t place;
     uint32_t start;
     uint32_t end;
     uint32_t font;
@@ -161,9 +158,8 @@ typedef struct CaptionsStyle {
 
 /* The eight bytes stand at the offset of the sample or else of the entry. */
 typedef struct CaptionsTextBox {
+    CaptionsRefusal refusal;
     uint32_t who;
-    uint32_t number;
-    size_t place;
     bool insample;
     size_t offset;
 } CaptionsTextBox;
@@ -173,8 +169,7 @@ typedef struct CaptionsTextBox {
    styl: count; styles of 12 bytes. hlit, blnk: start, end. hclr: red, green, blue, alpha. krok: start time, count; entries of 8 bytes.
    dlay: time. href: start, end; the URL up to `end`, and the alternative text. tbox: the 8 bytes. twrp: the flag. */
 typedef struct CaptionsModifier {
-    uint32_t number;
-    size_t place;
+    CaptionsRefusal refusal;
     bool found;
     uint32_t kind;
     uint32_t first;
@@ -189,7 +184,7 @@ typedef struct CaptionsModifier {
 } CaptionsModifier;
 
 /* The entry is judged first, then the sample, then k (7, the sample's, place 0). */
-CaptionsJudgement captions_judge_tx3g_entry(const uint8_t *entry, size_t entry_len);
+CaptionsRefusal captions_judge_tx3g_entry(const uint8_t *entry, size_t entry_len);
 CaptionsTx3g captions_judge_tx3g_sample(const uint8_t *entry, size_t entry_len, const uint8_t *sample, size_t sample_len);
 CaptionsStyle captions_style(const uint8_t *entry, size_t entry_len, const uint8_t *sample, size_t sample_len, size_t k);
 CaptionsTextBox captions_text_box(const uint8_t *entry, size_t entry_len, const uint8_t *sample, size_t sample_len);

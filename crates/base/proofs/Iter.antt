@@ -1,8 +1,7 @@
 -- Laws of loops by `iter`.
-use Prim.Native.Nat.{ℕ, zero, suc, _+_, _-_, _≤_}
-use mathlib.Core.Path.{_≡_, refl, sym}
+use Prim.Native.Nat.{ℕ, _+_, _-_, _≤_}
+use mathlib.Core.Path.{_≡_, refl}
 use native.Mathlib.Omega.{arith}
-use native.Mathlib.Nat.{add-zero, add-suc}
 use native.Mathlib.Numerals.{add-one}
 use Rattle.base.specs.Iter.{iter}
 
@@ -15,15 +14,6 @@ module _ {S : Type 0} (f : ℕ → S → S) (s : S) where
   pub iter-more : (k : ℕ) (x y : S) → x ≡ iter f s k → y ≡ f k x → y ≡ iter f s (k + 1)
   unfolding iter
   iter-more k x y e q = rw (add-one, iter, ← e) q
-
-  on : (k d : ℕ) (x : S) → ((j : ℕ) → f j x ≡ x) → x ≡ iter f s k → x ≡ iter f s (k + d)
-  unfolding iter
-  on k zero x h e = rw add-zero e
-  on k (suc d) x h e = let r = on k d x h e in rw (add-suc, iter, ← r) (sym (h (k + d)))
-
-  -- a state that every turn keeps, as a refusal, stays
-  pub iter-stays : (k n : ℕ) (x : S) → k ≤ n → ((j : ℕ) → f j x ≡ x) → x ≡ iter f s k → x ≡ iter f s n
-  iter-stays k n x l h e = let q : n ≡ k + (n - k) = omega arith in rw q (on k (n - k) x h e)
 
   -- a loop from place `from` that stands at place i
   pub iter-begins : (from : ℕ) → s ≡ iter f s (from - from)

@@ -21,12 +21,12 @@ use Rattle.boxes.specs.Boxes.{stepAt, stoppedBy, Boxes, clean, broken, b
 
 boxed : (b1 b2 b3 b4 : Bool) (r q u : Refusal) (k b n k′ b′ n′ : ℕ)
     → pick b1 End (pick b2 (Stopped r) (pick b3 (Stopped q) (pick b4 (Stopped u) (Box k b n)))) ≡ Box k′ b′ n′
-    → (b1 ≡ false) × (b3 ≡ false) × (b4 ≡ false) × (b ≡ b′) × (n ≡ n′)
+    → (b1 ≡ false) × (b3 ≡ false) × (b4 ≡ false) × (b ≡ b′) × (n ≡ n′) × (k ≡ k′)
 boxed true b2 b3 b4 r q u k b n k′ b′ n′ e = let z : _≡_ {A = ℕ} 0 1 = cc in absurd (omega arith)
 boxed false true b3 b4 r q u k b n k′ b′ n′ e = let z : _≡_ {A = ℕ} 0 1 = cc in absurd (omega arith)
 boxed false false true b4 r q u k b n k′ b′ n′ e = let z : _≡_ {A = ℕ} 0 1 = cc in absurd (omega arith)
 boxed false false false true r q u k b n k′ b′ n′ e = let z : _≡_ {A = ℕ} 0 1 = cc in absurd (omega arith)
-boxed false false false false r q u k b n k′ b′ n′ e = (refl, refl, refl, cc, cc)
+boxed false false false false r q u k b n k′ b′ n′ e = (refl, refl, refl, cc, cc, cc)
 
 -- a box lies within its container, and its body begins behind 8 bytes of header
 pub record Lies (at end body next : ℕ) : Type 0 where
@@ -42,6 +42,13 @@ step-box s at end k b n e =
     let h3 = ltb-false (be 4 s at) 8 (h .1) in
     let h4 = ltb-false (end - at) (be 4 s at) (h .2) in
     record { header = sym (h .3); order = omega (arith, h .3, h .4); inside = omega (arith, h .4) }
+
+-- what the header says
+pub step-reads : (s : List ℕ) (at end k b n : ℕ) → stepAt s at end ≡ Box k b n → (k ≡ be 4 s (at + 4)) × (n ≡ at + be 4 s at)
+unfolding stepAt
+step-reads s at end k b n e =
+    let h = boxed (leb end at) (ltb (end - at) 8) (ltb (be 4 s at) 8) (ltb (end - at) (be 4 s at)) (fault 1 at) (fault 2 at) (fault 1 at) (be 4 s (at + 4)) (at + 8) (at + be 4 s at) k b n e in
+    (sym (h .5), sym (h .4))
 
 -- the cases of a step
 pub step-end : (s : List ℕ) (at end : ℕ) → end ≤ at → stepAt s at end ≡ End

@@ -9,13 +9,19 @@ use tx3g_modifiers::Part;
 use tx3g_sample::Reading;
 use tx3g_style::Styled;
 use unpack::Unpacked;
+use verdict::Refusal;
 use verdict::Verdict;
+use verdict::bad_text_at;
+use verdict::fault_at;
+use verdict::text_at;
+use viable::Judged;
 use wvtt_cues::Held;
 ghost use mathlib.Core.Path.{_≡_};
-ghost use Prim.Native.Nat.{_+_};
 ghost use lib.ListN.{length};
-ghost use Rattle.utf8.specs.Utf8.{utf8};
+ghost use Rattle.verdict.specs.Judgement.{textAt};
+ghost use Rattle.utf8.specs.Utf8.{utf8, utf8Begun};
 ghost use Rattle.text.specs.Rules.{identifierText, payloadText, configurationText, labelText};
+ghost use Rattle.text.specs.Beginnings.{identifierBegun, payloadBegun, configurationBegun, labelBegun};
 ghost use Rattle.characters.specs.Characters.{charactersOf};
 ghost use Rattle.boxes.specs.Boxes.{stepAt, boxesIn};
 ghost use Rattle.times.specs.Times.{tick};
@@ -33,24 +39,17 @@ ghost use Rattle.tx3g_sample.specs.Sample.{readSample};
 ghost use Rattle.tx3g_style.specs.Style.{styleOf};
 ghost use Rattle.tx3g_box.specs.TextBox.{spotOf};
 ghost use Rattle.tx3g_modifiers.specs.Modifiers.{boxesFrom, nextModifier};
-ghost use Rattle.captions.specs.Flat.{flatVerdict, flatCount, flatStep, noCue, flatHeld, msOf, flatPacked, flatUnpacked, flatReading, flatStyled, flatSpot, modifierOf, flatModifier, noModifier, flatModified};
-
-#[repr(C)]
-pub struct CaptionsJudgement {
-    pub number: u32,
-    pub place: usize,
-}
+ghost use Rattle.captions.specs.Flat.{flatVerdict, flatText, flatCount, flatStep, noCue, flatHeld, msOf, flatPacked, flatUnpacked, flatReading, noStyle, flatStyled, flatSpot, modifierOf, flatModifier, noModifier, flatModified};
 
 #[repr(C)]
 pub struct CaptionsCount {
-    pub number: u32,
+    pub refusal: Refusal,
     pub characters: usize,
 }
 
 #[repr(C)]
 pub struct CaptionsStep {
-    pub number: u32,
-    pub place: usize,
+    pub refusal: Refusal,
     pub found: bool,
     pub kind: u32,
     pub body: usize,
@@ -59,8 +58,7 @@ pub struct CaptionsStep {
 
 #[repr(C)]
 pub struct CaptionsCue {
-    pub number: u32,
-    pub place: usize,
+    pub refusal: Refusal,
     pub found: bool,
     pub named: bool,
     pub id: u32,
@@ -75,8 +73,7 @@ pub struct CaptionsCue {
 
 #[repr(C)]
 pub struct CaptionsPacked {
-    pub number: u32,
-    pub place: usize,
+    pub refusal: Refusal,
     pub samples: usize,
     pub tablebytes: usize,
     pub samplebytes: usize,
@@ -84,8 +81,7 @@ pub struct CaptionsPacked {
 
 #[repr(C)]
 pub struct CaptionsUnpacked {
-    pub number: u32,
-    pub place: usize,
+    pub refusal: Refusal,
     pub recordbytes: usize,
     pub poolbytes: usize,
     pub t: u32,
@@ -93,17 +89,15 @@ pub struct CaptionsUnpacked {
 
 #[repr(C)]
 pub struct CaptionsTx3g {
+    pub refusal: Refusal,
     pub who: u32,
-    pub number: u32,
-    pub place: usize,
     pub characters: usize,
 }
 
 #[repr(C)]
 pub struct CaptionsStyle {
+    pub refusal: Refusal,
     pub who: u32,
-    pub number: u32,
-    pub place: usize,
     pub start: u32,
     pub end: u32,
     pub font: u32,
@@ -117,9 +111,8 @@ pub struct CaptionsStyle {
 
 #[repr(C)]
 pub struct CaptionsTextBox {
+    pub refusal: Refusal,
     pub who: u32,
-    pub number: u32,
-    pub place: usize,
     pub insample: bool,
     pub offset: usize,
 }
@@ -127,8 +120,7 @@ pub struct CaptionsTextBox {
 // A modifier by the type of its box. What its numbers are, and what stands from `from` on, is said at `captions_next_modifier`.
 #[repr(C)]
 pub struct CaptionsModifier {
-    pub number: u32,
-    pub place: usize,
+    pub refusal: Refusal,
     pub found: bool,
     pub kind: u32,
     pub first: u32,
@@ -142,19 +134,21 @@ pub struct CaptionsModifier {
     pub next: usize,
 }
 
-fn flat_verdict(v: Verdict) -> CaptionsJudgement
+// The refusal, or number 0 where nothing is wrong.
+fn flat_verdict(v: Verdict) -> Refusal
     ensures { λ r. ⌜ r ≡ flatVerdict v ⌝ }
 {
     match v {
-        Verdict::Fine => CaptionsJudgement {
-            number: 0,
-            place: 0,
-        },
-        Verdict::Refused(why) => CaptionsJudgement {
-            number: why.number,
-            place: why.place,
-        },
+        Verdict::Fine => fault_at(0, 0),
+        Verdict::Refused(why) => why,
     }
+}
+
+// A text at place 0.
+fn flat_text(j: Judged) -> Refusal
+    ensures { λ r. ⌜ r ≡ flatVerdict (textAt 0 j) ⌝ }
+{
+    flat_verdict(text_at(0, j))
 }
 
 fn flat_count(n: Counted) -> CaptionsCount
@@ -162,11 +156,11 @@ fn flat_count(n: Counted) -> CaptionsCount
 {
     match n {
         Counted::Characters(characters) => CaptionsCount {
-            number: 0,
+            refusal: fault_at(0, 0),
             characters,
         },
-        Counted::Bad => CaptionsCount {
-            number: 6,
+        Counted::Bad(offset) => CaptionsCount {
+            refusal: bad_text_at(0, offset),
             characters: 0,
         },
     }
@@ -177,24 +171,21 @@ fn flat_step(t: Step) -> CaptionsStep
 {
     match t {
         Step::Box { kind, body, next } => CaptionsStep {
-            number: 0,
-            place: 0,
+            refusal: fault_at(0, 0),
             found: true,
             kind,
             body,
             next,
         },
         Step::Refused(why) => CaptionsStep {
-            number: why.number,
-            place: why.place,
+            refusal: why,
             found: false,
             kind: 0,
             body: 0,
             next: 0,
         },
         Step::End => CaptionsStep {
-            number: 0,
-            place: 0,
+            refusal: fault_at(0, 0),
             found: false,
             kind: 0,
             body: 0,
@@ -203,12 +194,11 @@ fn flat_step(t: Step) -> CaptionsStep
     }
 }
 
-fn no_cue(number: u32, place: usize) -> CaptionsCue
-    ensures { λ r. ⌜ r ≡ noCue number place ⌝ }
+fn no_cue(refusal: Refusal) -> CaptionsCue
+    ensures { λ r. ⌜ r ≡ noCue refusal ⌝ }
 {
     CaptionsCue {
-        number,
-        place,
+        refusal,
         found: false,
         named: false,
         id: 0,
@@ -227,8 +217,7 @@ fn flat_held(h: Held) -> CaptionsCue
 {
     match h {
         Held::Cue { parts, next } => CaptionsCue {
-            number: 0,
-            place: 0,
+            refusal: fault_at(0, 0),
             found: true,
             named: parts.named,
             id: parts.id,
@@ -240,8 +229,8 @@ fn flat_held(h: Held) -> CaptionsCue
             payloadend: parts.payload.end,
             next,
         },
-        Held::Refused(why) => no_cue(why.number, why.place),
-        Held::End => no_cue(0, 0),
+        Held::Refused(why) => no_cue(why),
+        Held::End => no_cue(fault_at(0, 0)),
     }
 }
 
@@ -254,15 +243,13 @@ fn flat_packed(p: Packed) -> CaptionsPacked
             table,
             bytes,
         } => CaptionsPacked {
-            number: 0,
-            place: 0,
+            refusal: fault_at(0, 0),
             samples,
             tablebytes: table,
             samplebytes: bytes,
         },
         Packed::Refused(why) => CaptionsPacked {
-            number: why.number,
-            place: why.place,
+            refusal: why,
             samples: 0,
             tablebytes: 0,
             samplebytes: 0,
@@ -275,15 +262,13 @@ fn flat_unpacked(u: Unpacked) -> CaptionsUnpacked
 {
     match u {
         Unpacked::Done { records, pool, t } => CaptionsUnpacked {
-            number: 0,
-            place: 0,
+            refusal: fault_at(0, 0),
             recordbytes: records,
             poolbytes: pool,
             t,
         },
         Unpacked::Refused(why) => CaptionsUnpacked {
-            number: why.number,
-            place: why.place,
+            refusal: why,
             recordbytes: 0,
             poolbytes: 0,
             t: 0,
@@ -296,23 +281,38 @@ fn flat_reading(r: Reading) -> CaptionsTx3g
 {
     match r {
         Reading::Good(characters) => CaptionsTx3g {
+            refusal: fault_at(0, 0),
             who: 0,
-            number: 0,
-            place: 0,
             characters,
         },
         Reading::BadEntry(why) => CaptionsTx3g {
+            refusal: why,
             who: 1,
-            number: why.number,
-            place: why.place,
             characters: 0,
         },
         Reading::BadSample(why) => CaptionsTx3g {
+            refusal: why,
             who: 2,
-            number: why.number,
-            place: why.place,
             characters: 0,
         },
+    }
+}
+
+fn no_style(refusal: Refusal, who: u32) -> CaptionsStyle
+    ensures { λ r. ⌜ r ≡ noStyle refusal who ⌝ }
+{
+    CaptionsStyle {
+        refusal,
+        who,
+        start: 0,
+        end: 0,
+        font: 0,
+        face: 0,
+        size: 0,
+        red: 0,
+        green: 0,
+        blue: 0,
+        alpha: 0,
     }
 }
 
@@ -321,9 +321,8 @@ fn flat_styled(s: Styled) -> CaptionsStyle
 {
     match s {
         Styled::Found(style) => CaptionsStyle {
+            refusal: fault_at(0, 0),
             who: 0,
-            number: 0,
-            place: 0,
             start: style.start,
             end: style.end,
             font: style.font,
@@ -334,34 +333,8 @@ fn flat_styled(s: Styled) -> CaptionsStyle
             blue: style.blue,
             alpha: style.alpha,
         },
-        Styled::BadEntry(why) => CaptionsStyle {
-            who: 1,
-            number: why.number,
-            place: why.place,
-            start: 0,
-            end: 0,
-            font: 0,
-            face: 0,
-            size: 0,
-            red: 0,
-            green: 0,
-            blue: 0,
-            alpha: 0,
-        },
-        Styled::BadSample(why) => CaptionsStyle {
-            who: 2,
-            number: why.number,
-            place: why.place,
-            start: 0,
-            end: 0,
-            font: 0,
-            face: 0,
-            size: 0,
-            red: 0,
-            green: 0,
-            blue: 0,
-            alpha: 0,
-        },
+        Styled::BadEntry(why) => no_style(why, 1),
+        Styled::BadSample(why) => no_style(why, 2),
     }
 }
 
@@ -379,8 +352,7 @@ fn modifier_of(
     ensures { λ r. ⌜ r ≡ modifierOf kind first second third fourth from end 0 0 next ⌝ }
 {
     CaptionsModifier {
-        number: 0,
-        place: 0,
+        refusal: fault_at(0, 0),
         found: true,
         kind,
         first,
@@ -400,8 +372,7 @@ fn flat_link(start: u32, end: u32, url: Part, alternative: Part, next: usize) ->
     ensures { λ r. ⌜ r ≡ modifierOf 0x68726566 start end 0 0 (url .from) (url .end) (alternative .from) (alternative .end) next ⌝ }
 {
     CaptionsModifier {
-        number: 0,
-        place: 0,
+        refusal: fault_at(0, 0),
         found: true,
         kind: 0x68726566,
         first: start,
@@ -451,12 +422,11 @@ fn flat_modifier(m: Modifier, next: usize) -> CaptionsModifier
     }
 }
 
-fn no_modifier(number: u32, place: usize) -> CaptionsModifier
-    ensures { λ r. ⌜ r ≡ noModifier number place ⌝ }
+fn no_modifier(refusal: Refusal) -> CaptionsModifier
+    ensures { λ r. ⌜ r ≡ noModifier refusal ⌝ }
 {
     CaptionsModifier {
-        number,
-        place,
+        refusal,
         found: false,
         kind: 0,
         first: 0,
@@ -476,44 +446,45 @@ fn flat_modified(h: Modified) -> CaptionsModifier
 {
     match h {
         Modified::One { modifier, next } => flat_modifier(modifier, next),
-        Modified::Refused(why) => no_modifier(why.number, why.place),
-        Modified::End => no_modifier(0, 0),
+        Modified::Refused(why) => no_modifier(why),
+        Modified::End => no_modifier(fault_at(0, 0)),
     }
 }
 
+// The rules of texts; the place is 0.
 #[no_mangle]
-pub extern "C" fn captions_is_utf8(text: &[u8]) -> bool
-    ensures { λ r. ⌜ r ≡ utf8 (now (text .entry)) ⌝ }
+pub extern "C" fn captions_judge_utf8(text: &[u8]) -> Refusal
+    ensures { λ r. ⌜ r ≡ flatText utf8 utf8Begun (now (text .entry)) ⌝ }
 {
-    text::is_utf8(text)
+    flat_text(text::judge_utf8(text))
 }
 
 #[no_mangle]
-pub extern "C" fn captions_is_identifier(text: &[u8]) -> bool
-    ensures { λ r. ⌜ r ≡ identifierText (now (text .entry)) ⌝ }
+pub extern "C" fn captions_judge_identifier(text: &[u8]) -> Refusal
+    ensures { λ r. ⌜ r ≡ flatText identifierText identifierBegun (now (text .entry)) ⌝ }
 {
-    text::is_identifier(text)
+    flat_text(text::judge_identifier(text))
 }
 
 #[no_mangle]
-pub extern "C" fn captions_is_payload(text: &[u8]) -> bool
-    ensures { λ r. ⌜ r ≡ payloadText (now (text .entry)) ⌝ }
+pub extern "C" fn captions_judge_payload(text: &[u8]) -> Refusal
+    ensures { λ r. ⌜ r ≡ flatText payloadText payloadBegun (now (text .entry)) ⌝ }
 {
-    text::is_payload(text)
+    flat_text(text::judge_payload(text))
 }
 
 #[no_mangle]
-pub extern "C" fn captions_is_configuration(text: &[u8]) -> bool
-    ensures { λ r. ⌜ r ≡ configurationText (now (text .entry)) ⌝ }
+pub extern "C" fn captions_judge_configuration(text: &[u8]) -> Refusal
+    ensures { λ r. ⌜ r ≡ flatText configurationText configurationBegun (now (text .entry)) ⌝ }
 {
-    text::is_configuration(text)
+    flat_text(text::judge_configuration(text))
 }
 
 #[no_mangle]
-pub extern "C" fn captions_is_label(text: &[u8]) -> bool
-    ensures { λ r. ⌜ r ≡ labelText (now (text .entry)) ⌝ }
+pub extern "C" fn captions_judge_label(text: &[u8]) -> Refusal
+    ensures { λ r. ⌜ r ≡ flatText labelText labelBegun (now (text .entry)) ⌝ }
 {
-    text::is_label(text)
+    flat_text(text::judge_label(text))
 }
 
 #[no_mangle]
@@ -552,7 +523,7 @@ pub extern "C" fn captions_ms(scale: u32, tick: u64) -> u64
 }
 
 #[no_mangle]
-pub extern "C" fn captions_judge_sample(sample: &[u8]) -> CaptionsJudgement
+pub extern "C" fn captions_judge_sample(sample: &[u8]) -> Refusal
     ensures { λ r. ⌜ r ≡ flatVerdict (judgeSample (now (sample .entry))) ⌝ }
 {
     flat_verdict(wvtt::judge_sample(sample))
@@ -567,26 +538,21 @@ pub extern "C" fn captions_next_cue(sample: &[u8], from: usize) -> CaptionsCue
 }
 
 #[no_mangle]
-pub extern "C" fn captions_judge_wvtt_entry(entry: &[u8]) -> CaptionsJudgement
+pub extern "C" fn captions_judge_wvtt_entry(entry: &[u8]) -> Refusal
     ensures { λ r. ⌜ r ≡ flatVerdict (judgeEntry (now (entry .entry))) ⌝ }
 {
     flat_verdict(wvtt_entry::judge_entry(entry))
 }
 
 #[no_mangle]
-pub extern "C" fn captions_judge_list(
-    scale: u32,
-    t: u32,
-    records: &[u8],
-    pool: &[u8],
-) -> CaptionsJudgement
+pub extern "C" fn captions_judge_list(scale: u32, t: u32, records: &[u8], pool: &[u8]) -> Refusal
     ensures { λ r. ⌜ r ≡ flatVerdict (judgeList scale t (now (records .entry)) (now (pool .entry))) ⌝ }
 {
     flat_verdict(cues::judge_list(scale, t, records, pool))
 }
 
 #[no_mangle]
-pub extern "C" fn captions_judge_track(table: &[u8], samples: &[u8]) -> CaptionsJudgement
+pub extern "C" fn captions_judge_track(table: &[u8], samples: &[u8]) -> Refusal
     ensures { λ r. ⌜ r ≡ flatVerdict (judgeTrack (now (table .entry)) (now (samples .entry))) ⌝ }
 {
     flat_verdict(track::judge_track(table, samples))
@@ -636,14 +602,14 @@ pub extern "C" fn captions_check(
     pool: &[u8],
     table: &[u8],
     samples: &[u8],
-) -> CaptionsJudgement
+) -> Refusal
     ensures { λ r. ⌜ r ≡ flatVerdict (conformance scale t (now (records .entry)) (now (pool .entry)) (now (table .entry)) (now (samples .entry))) ⌝ }
 {
     flat_verdict(conform::check_track(scale, t, records, pool, table, samples))
 }
 
 #[no_mangle]
-pub extern "C" fn captions_judge_tx3g_entry(entry: &[u8]) -> CaptionsJudgement
+pub extern "C" fn captions_judge_tx3g_entry(entry: &[u8]) -> Refusal
     ensures { λ r. ⌜ r ≡ flatVerdict (judgeTimedText (now (entry .entry))) ⌝ }
 {
     flat_verdict(tx3g_entry::judge_entry(entry))
@@ -673,25 +639,23 @@ pub extern "C" fn captions_text_box(entry: &[u8], sample: &[u8]) -> CaptionsText
     let p = tx3g_box::find_box(entry, sample);
     match p {
         Spot::Sample(at) => CaptionsTextBox {
+            refusal: fault_at(0, 0),
             who: 0,
-            number: 0,
-            place: 0,
             insample: true,
             offset: at,
         },
         Spot::Entry => CaptionsTextBox {
+            refusal: fault_at(0, 0),
             who: 0,
-            number: 0,
-            place: 0,
             insample: false,
             offset: 26,
         },
         Spot::Nowhere => {
             let why = flat_reading(tx3g_sample::read_sample(entry, sample));
+            let refusal = why.refusal;
             CaptionsTextBox {
+                refusal,
                 who: why.who,
-                number: why.number,
-                place: why.place,
                 insample: false,
                 offset: 0,
             }

@@ -3,8 +3,11 @@ use Prim.Native.Nat.{ℕ, _+_}
 use mathlib.Core.List.{List, [], _∷_}
 use mathlib.Core.Bool.{Bool, true, false, not}
 use lib.ListN.{drop}
-use Rattle.base.specs.Choice.{pick, both, within}
-use Rattle.utf8.specs.Utf8.{utf8}
+use Rattle.base.specs.Choice.{pick, both, one-of, within}
+use Rattle.viable.specs.declared.Judged.{Judged}
+use Rattle.viable.specs.declared.Judged.the-variants.{Right, Bad as BadAt}
+use Rattle.viable.specs.FirstBad.{judgedBy}
+use Rattle.utf8.specs.Utf8.{utf8, utf8Begun}
 use Rattle.utf8.specs.Strings.{startsWith}
 use Rattle.characters.specs.declared.Counted.{Counted}
 use Rattle.characters.specs.declared.Counted.the-variants.{Characters, Bad}
@@ -47,16 +50,32 @@ firstUnits [] = 0
 firstUnits (h ∷ []) = 0
 firstUnits (h ∷ l ∷ s) = pick (isLow h) 0 1 + firstUnits s
 
-unfoldable pub countIf : Bool → ℕ → Counted
-countIf true n = Characters n
-countIf false n = Bad
-
 -- the mark of UTF-16
 unfoldable pub mark : List ℕ
 mark = 0xFE ∷ 0xFF ∷ []
 
+-- a 3GPP text: UTF-16 after the mark, else UTF-8
+unfoldable pub tx3gText : List ℕ → Bool
+tx3gText s = pick (startsWith mark s) (utf16 false (drop 2 s)) (utf8 s)
+
+-- how many characters it has
+unfoldable pub characterCount : List ℕ → ℕ
+characterCount s = pick (startsWith mark s) (firstUnits (drop 2 s)) (firsts s)
+
+-- beginnings of such texts, which may end within a unit, a pair or the mark; nobody has to believe them, as in crate text
+unfoldable pub utf16Begun : Bool → List ℕ → Bool
+unfolding isHigh isLow
+utf16Begun due [] = true
+utf16Begun due (h ∷ []) = sameTest (isLow h) due
+utf16Begun due (h ∷ l ∷ s) = both (sameTest (isLow h) due) (utf16Begun (isHigh h) s)
+
+unfoldable pub tx3gBegun : List ℕ → Bool
+tx3gBegun s = one-of (startsWith s mark) (pick (startsWith mark s) (utf16Begun false (drop 2 s)) (utf8Begun s))
+
+abbrev pub countBy : Judged → ℕ → Counted
+countBy Right n = Characters n
+countBy (BadAt q) n = Bad q
+
+-- the characters of a 3GPP text, or its first bad byte
 unfoldable pub charactersOf : List ℕ → Counted
-charactersOf s =
-    pick (startsWith mark s)
-    (countIf (utf16 false (drop 2 s)) (firstUnits (drop 2 s)))
-    (countIf (utf8 s) (firsts s))
+charactersOf s = countBy (judgedBy tx3gText tx3gBegun s) (characterCount s)

@@ -1,21 +1,25 @@
 // The characters of a 3GPP text: UTF-16 after the mark FE FF, else UTF-8.
 use ascii::is_ascii;
-use text::starts_with;
+use text::agreeing;
 use utf8::Rule;
-use utf8::keeps_rule;
+use utf8::judge_rule;
+use viable::Judged;
 ghost use mathlib.Core.Path.{_≡_};
-ghost use mathlib.Core.Bool.{false};
+ghost use mathlib.Core.Bool.{true};
 ghost use Prim.Native.Nat.{_+_, _-_, _≤_};
-ghost use lib.ListN.{length, drop};
+ghost use lib.ListN.{length};
 ghost use Rattle.base.specs.Choice.{pick, within};
-ghost use Rattle.characters.specs.Characters.{isTail, firsts, isLow, sameTest, utf16, firstUnits, countIf, charactersOf};
+ghost use Rattle.viable.specs.FirstBad.{judgedBy};
+ghost use Rattle.utf8.specs.Utf8.{utf8, utf8Begun};
+ghost use Rattle.utf8.specs.Strings.{startsWith};
+ghost use Rattle.characters.specs.Characters.{isTail, firsts, isLow, sameTest, mark, countBy, charactersOf};
 ghost use Rattle.characters.specs.Counting.{firstsIn};
 
 // A text's characters.
 pub enum Counted {
     Characters(usize),
-    // Bytes that are neither UTF-8 nor UTF-16 after its mark.
-    Bad,
+    // Bytes that are neither UTF-8 nor UTF-16 after its mark, and the first bad one.
+    Bad(usize),
 }
 
 fn is_within(lo: u8, hi: u8, b: u8) -> bool
@@ -107,27 +111,44 @@ fn first_unit(h: u8) -> usize
 
 // The characters of UTF-16 after its mark.
 fn count_utf16(s: &[u8]) -> Counted
-    requires { ⌜ 2 ≤ length (now s) ⌝ }
-    ensures { λ r. ⌜ r ≡ countIf (utf16 false (drop 2 (now (s .entry)))) (firstUnits (drop 2 (now (s .entry)))) ⌝ }
+    requires { ⌜ startsWith mark (now s) ≡ true ⌝ }
+    ensures { λ r. ⌜ r ≡ charactersOf (now (s .entry)) ⌝ }
 {
     let mut due = false;
     let mut n = 0;
     let mut i = 2;
     while i + 1 < s.len() {
         if !is_expected(due, s[i]) {
-            return Counted::Bad;
+            return Counted::Bad(i);
         }
         n += first_unit(s[i]);
         due = is_within(0xD8, 0xDB, s[i]);
         i += 2;
     }
     if i < s.len() {
-        return Counted::Bad;
+        if !is_expected(due, s[i]) {
+            return Counted::Bad(i);
+        }
+        return Counted::Bad(s.len());
     }
     if due {
-        return Counted::Bad;
+        return Counted::Bad(s.len());
     }
     Counted::Characters(n)
+}
+
+// The characters of UTF-8.
+fn count_utf8(s: &[u8]) -> Counted
+    ensures { λ r. ⌜ r ≡ countBy (judgedBy utf8 utf8Begun (now (s .entry))) (firsts (now (s .entry))) ⌝ }
+{
+    if is_ascii(s) {
+        return Counted::Characters(s.len());
+    }
+    let j = judge_rule(s, Rule::Any);
+    match j {
+        Judged::Right => Counted::Characters(count_firsts(s)),
+        Judged::Bad(offset) => Counted::Bad(offset),
+    }
 }
 
 // The characters of a 3GPP text.
@@ -135,14 +156,13 @@ pub fn count_characters(s: &[u8]) -> Counted
     ensures { λ r. ⌜ r ≡ charactersOf (now (s .entry)) ⌝ }
 {
     let mark: [u8; 2] = [0xFE, 0xFF];
-    if starts_with(s, &mark) {
+    let n = agreeing(s, &mark);
+    if n == 2 {
         return count_utf16(s);
     }
-    if is_ascii(s) {
-        return Counted::Characters(s.len());
+    // FE is in no UTF-8, but may begin the mark.
+    if n == 1 {
+        return Counted::Bad(1);
     }
-    if keeps_rule(s, Rule::Any) {
-        return Counted::Characters(count_firsts(s));
-    }
-    Counted::Bad
+    count_utf8(s)
 }

@@ -16,7 +16,8 @@ use Rattle.base.proofs.Choice.{both-left, both-right, true-false, either, by-te
 use Rattle.base.proofs.Table.{at}
 use Rattle.utf8.specs.Utf8.{Range, Row, tail, rows, followIn, follow, onSome, judge, utf8}
 use Rattle.utf8.specs.Strings.{startsWith}
-use Rattle.characters.specs.Characters.{isTail, firsts, mark, countIf, charactersOf}
+use Rattle.characters.specs.Characters.{isTail, firsts, mark, tx3gText, characterCount, charactersOf}
+use Rattle.characters.proofs.Counts.{text-right}
 use Rattle.characters.specs.declared.Counted.the-variants.{Characters}
 use Rattle.utf8.proofs.Ranges.{inside, below, above, in-range, sameAsked, same-asked}
 use Rattle.code_points.specs.CodePoints.{scalar, scalars, encode, joined, Encoded, Utf8Is}
@@ -350,5 +351,5 @@ unfolding utf8
 utf8-is s = (points encode (λ xs. judge xs []) first (length s) s (omega arith), λ e. rw (e .2) (encodings-right (e .0) (e .1) .0))
 
 pub utf8-count : (cs : List ℕ) → scalars cs ≡ true → charactersOf (joined encode cs) ≡ Characters (length cs)
-unfolding charactersOf utf8 countIf
-utf8-count cs h = let r = encodings-right cs h in rw (r .2, r .0, r .1)
+unfolding tx3gText characterCount utf8
+utf8-count cs h = let r = encodings-right cs h in sym (text-right (joined encode cs) (length cs) (rw (r .2, r .0)) (rw (r .2, r .1)))

@@ -12,8 +12,9 @@ use lib.ListN.{length, drop}
 use Rattle.base.specs.Choice.{both, within}
 use Rattle.base.proofs.Choice.{both-left, both-right, true-false, either, by-test}
 use Rattle.characters.specs.declared.Counted.the-variants.{Characters}
-use Rattle.characters.specs.Characters.{firsts, isHigh, isLow, sameTest, utf16, firstUnits, mark, countIf, charactersOf}
-use Rattle.utf8.specs.Utf8.{utf8}
+use Rattle.characters.specs.Characters.{isHigh, isLow, sameTest, utf16, firstUnits, mark, tx3gText, characterCount, charactersOf}
+use Rattle.characters.proofs.Counts.{text-right, counted-text}
+use Rattle.characters.proofs.Begun.{text-marked, text-other}
 use Rattle.utf8.specs.Strings.{startsWith}
 use Rattle.utf8.proofs.Ranges.{inside, below, above, in-range}
 use Rattle.code_points.specs.CodePoints.{scalar, scalars, joined, unit, encode16, bytes, Utf16Is, CountIs, CountedIs}
@@ -172,8 +173,8 @@ pub utf16-is : Utf16Is
 utf16-is s b = (λ u. points encode16 valid first (length s) s (omega arith) (valid-is s b u), λ e. rw (e .2) (encodings-right (e .0) (e .1) .0))
 
 pub count-is : CountIs
-unfolding charactersOf mark startsWith countIf
-count-is cs h = let r = encodings-right cs h in (utf8-count cs h, rw (r .0, r .1))
+unfolding tx3gText characterCount mark startsWith
+count-is cs h = let r = encodings-right cs h in (utf8-count cs h, sym (text-right (mark ++ joined encode16 cs) (length cs) (r .0) (sym (r .1))))
 
 -- a text that begins with the mark
 behind-mark : (s : List ℕ) → startsWith mark s ≡ true → s ≡ mark ++ drop 2 s
@@ -191,22 +192,16 @@ bytes-drop [] h = refl
 bytes-drop (a ∷ []) h = refl
 bytes-drop (a ∷ b ∷ s) h = both-right (ltb b 256) (bytes s) (both-right (ltb a 256) (both (ltb b 256) (bytes s)) h)
 
-counted-if : (t : Bool) (m n : ℕ) → countIf t m ≡ Characters n → t ≡ true
-unfolding countIf
-counted-if true m n e = refl
-counted-if false m n e = let z : _≡_ {A = ℕ} 0 1 = cc in absurd (omega arith)
-
 same-count : (m n : ℕ) → Characters m ≡ Characters n → m ≡ n
 same-count m n e = cc
 
 pub counted-is : CountedIs
-unfolding charactersOf
 counted-is s n b e =
     by-test (startsWith mark s)
-    (λ t. let u = counted-if (utf16 false (drop 2 s)) (firstUnits (drop 2 s)) n (rw t at e) in
+    (λ t. let u = sym (text-marked s t) ∙ counted-text s n e in
     let w = utf16-is (drop 2 s) (bytes-drop s b) .0 u in
     let q : s ≡ mark ++ joined encode16 (w .0) = behind-mark s t ∙ ap (λ (x : List ℕ). mark ++ x) (w .2) in
     (w .0, w .1, same-count (length (w .0)) n (sym (count-is (w .0) (w .1) .1) ∙ ap charactersOf (sym q) ∙ e), inr q))
-    (λ t. let u = counted-if (utf8 s) (firsts s) n (rw t at e) in
+    (λ t. let u = sym (text-other s t) ∙ counted-text s n e in
     let w = utf8-is s .0 u in
     (w .0, w .1, same-count (length (w .0)) n (sym (count-is (w .0) (w .1) .0) ∙ ap charactersOf (sym (w .2)) ∙ e), inl (w .2)))

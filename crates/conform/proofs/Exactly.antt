@@ -4,9 +4,9 @@ use mathlib.Core.Path.{_≡_, refl, sym, ap, _∙_}
 use mathlib.Core.Logic.{_↔_}
 use mathlib.Core.List.{List}
 use native.Mathlib.Omega.{arith}
-use lib.ListN.{length}
 use Rattle.verdict.specs.declared.Verdict.the-variants.{Fine}
-use Rattle.verdict.specs.Judgement.{refuse, placeOf, fault}
+use Rattle.verdict.specs.declared.Refusal.{Refusal}
+use Rattle.verdict.specs.Judgement.{refuse, fault}
 use Rattle.times.specs.Times.{tick}
 use Rattle.timeline.specs.Checking.{Answer, accepted, wrong, short, check, Means}
 use Rattle.timeline.proofs.Answers.{answers}
@@ -19,7 +19,7 @@ use Rattle.conform.specs.Conformance.{answered, conformance, AtPlace, An
 
 same-place : (i j : ℕ) → refuse 16 i ≡ refuse 16 j → i ≡ j
 unfolding fault
-same-place i j e = ap placeOf e
+same-place i j e = let q : fault 16 i ≡ fault 16 j = cc in ap (λ (r : Refusal). r .place) q
 
 module _ (scale T : ℕ) (records pool table samples : List ℕ) (fine : judgeList scale T records pool ≡ Fine) (reads : judgeTrack table samples ≡ Fine) where
   -- a list and a track without fault leave the answer

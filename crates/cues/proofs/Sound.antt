@@ -14,16 +14,18 @@ use Rattle.base.specs.Choice.{one-of}
 use Rattle.base.proofs.Choice.{by-test, either}
 use Rattle.base.specs.First.{orElse, firstFrom, first}
 use Rattle.base.proofs.First.{first-none}
+use Rattle.viable.specs.FirstBad.{judgedBy}
 use Rattle.text.specs.Rules.{identifierText, payloadText}
+use Rattle.text.specs.Beginnings.{identifierBegun, payloadBegun}
 use Rattle.times.specs.Times.{tick, timelineAllowed}
 use Rattle.times.proofs.Laws.{timeline-limits, limits-timeline, tick-mono}
 use Rattle.verdict.specs.declared.Verdict.the-variants.{Fine}
-use Rattle.verdict.specs.Judgement.{_gives_at_, each}
-use Rattle.verdict.proofs.Judgement.{both-fine, each-fine, each-all}
+use Rattle.verdict.specs.Judgement.{_gives_at_, textAt, each}
+use Rattle.verdict.proofs.Judgement.{then-fine, both-fine, text-fine, text-right, each-fine, each-all}
 use Rattle.timeline.specs.Cues.{Cue, Proper, Named}
 use Rattle.timeline.proofs.Listing.{length-listed, mem-listed, listed-pairs}
 use Rattle.records.specs.Records.{count, sourceId, startMs, endMs, identifierLength, settingsLength, payloadLength, reserved, textsEnd, identifierOf, settingsOf, payloadOf}
-use Rattle.cues.specs.Judgement.{badValue, tooLong, pastPool, badText, badTime, startFalls, judgeRecord, found, stoodEarlier, twiceAt, judgeIds, judgeList}
+use Rattle.cues.specs.Judgement.{badValue, tooLong, pastPool, judgeTexts, badTime, startFalls, judgeRecord, found, stoodEarlier, twiceAt, judgeIds, judgeList}
 use Rattle.cues.specs.List.{bodyOf, cueOf, cuesOf, SoundRecord, Sound, FineIff, SoundProper}
 
 -- a test that gives no fault
@@ -47,20 +49,33 @@ unfolding startFalls
 falls-not recs zero h = refl
 falls-not recs (suc i) h = le-ltb (startMs recs (suc i)) (startMs recs i) (h i refl)
 
+-- the texts have no fault exactly if each keeps its rule
+module _ (recs pool : List ℕ) (i : ℕ) where
+  texts-fine : judgeTexts recs pool i ≡ Fine → (identifierText (identifierOf recs pool i) ≡ true) × (identifierText (settingsOf recs pool i) ≡ true) × (payloadText (payloadOf recs pool i) ≡ true)
+  unfolding judgeTexts
+  texts-fine e =
+      let a = both-fine (textAt i (judgedBy identifierText identifierBegun (identifierOf recs pool i))) _ e in
+      let b = both-fine (textAt i (judgedBy identifierText identifierBegun (settingsOf recs pool i))) _ (a .1) in
+      (text-fine identifierText identifierBegun i _ (a .0), text-fine identifierText identifierBegun i _ (b .0), text-fine payloadText payloadBegun i _ (b .1))
+
+  texts-right : identifierText (identifierOf recs pool i) ≡ true → identifierText (settingsOf recs pool i) ≡ true → payloadText (payloadOf recs pool i) ≡ true → judgeTexts recs pool i ≡ Fine
+  unfolding judgeTexts
+  texts-right a b c =
+      then-fine _ _ (text-right identifierText identifierBegun i _ a) ∙ then-fine _ _ (text-right identifierText identifierBegun i _ b) ∙ text-right payloadText payloadBegun i _ c
+
 module _ (scale T : ℕ) (recs pool : List ℕ) (i : ℕ) where
   record-sound : judgeRecord scale T recs pool i ≡ Fine → SoundRecord scale T recs pool i
-  unfolding judgeRecord badValue tooLong pastPool badText badTime
+  unfolding judgeRecord badValue tooLong pastPool badTime
   record-sound e =
       let a1 = both-fine (badValue recs i gives 8 at i) _ e in
       let a2 = both-fine (tooLong recs i gives 9 at i) _ (a1 .1) in
       let a3 = both-fine (pastPool recs pool i gives 1 at i) _ (a2 .1) in
-      let a4 = both-fine (badText recs pool i gives 6 at i) _ (a3 .1) in
+      let a4 = both-fine (judgeTexts recs pool i) _ (a3 .1) in
       let a5 = both-fine (badTime scale T recs i gives 10 at i) (startFalls recs i gives 11 at i) (a4 .1) in
       let value = neither (leb 2147483648 (sourceId recs i)) (ltb 0 (reserved recs i)) (no-fault (badValue recs i) 8 i (a1 .0)) in
       let long = neither (ltb 255 (identifierLength recs i)) (one-of (ltb 255 (settingsLength recs i)) (ltb 4095 (payloadLength recs i))) (no-fault (tooLong recs i) 9 i (a2 .0)) in
       let long2 = neither (ltb 255 (settingsLength recs i)) (ltb 4095 (payloadLength recs i)) (long .1) in
-      let text = neither (not (identifierText (identifierOf recs pool i))) (one-of (not (identifierText (settingsOf recs pool i))) (not (payloadText (payloadOf recs pool i)))) (no-fault (badText recs pool i) 6 i (a4 .0)) in
-      let text2 = neither (not (identifierText (settingsOf recs pool i))) (not (payloadText (payloadOf recs pool i))) (text .1) in
+      let text = texts-fine recs pool i (a4 .0) in
       let time = neither (leb (endMs recs i) (startMs recs i)) (one-of (ltb T (endMs recs i)) (leb (tick scale (endMs recs i)) (tick scale (startMs recs i)))) (no-fault (badTime scale T recs i) 10 i (a5 .0)) in
       let time2 = neither (ltb T (endMs recs i)) (leb (tick scale (endMs recs i)) (tick scale (startMs recs i))) (time .1) in
       let zero-most = ltb-false 0 (reserved recs i) (value .1) in
@@ -71,9 +86,9 @@ module _ (scale T : ℕ) (recs pool : List ℕ) (i : ℕ) where
         settings-most = ltb-false 255 (settingsLength recs i) (long2 .0);
         payload-most = ltb-false 4095 (payloadLength recs i) (long2 .1);
         inside = ltb-false (length pool) (textsEnd recs i) (no-fault (pastPool recs pool i) 1 i (a3 .0));
-        identifier-right = not-false (identifierText (identifierOf recs pool i)) (text .0);
-        settings-right = not-false (identifierText (settingsOf recs pool i)) (text2 .0);
-        payload-right = not-false (payloadText (payloadOf recs pool i)) (text2 .1);
+        identifier-right = text .0;
+        settings-right = text .1;
+        payload-right = text .2;
         lasts = leb-false (endMs recs i) (startMs recs i) (time .0);
         ends = ltb-false T (endMs recs i) (time2 .0);
         ticks = leb-false (tick scale (endMs recs i)) (tick scale (startMs recs i)) (time2 .1);
@@ -81,7 +96,7 @@ module _ (scale T : ℕ) (recs pool : List ℕ) (i : ℕ) where
       }
 
   sound-record : SoundRecord scale T recs pool i → judgeRecord scale T recs pool i ≡ Fine
-  unfolding judgeRecord badValue tooLong pastPool badText badTime
+  unfolding judgeRecord badValue tooLong pastPool badTime
   sound-record s =
       let z : reserved recs i ≤ 0 = omega (arith, s .zeros) in
       simp (
@@ -91,9 +106,7 @@ module _ (scale T : ℕ) (recs pool : List ℕ) (i : ℕ) where
         le-ltb 255 (settingsLength recs i) (s .settings-most),
         le-ltb 4095 (payloadLength recs i) (s .payload-most),
         le-ltb (length pool) (textsEnd recs i) (s .inside),
-        s .identifier-right,
-        s .settings-right,
-        s .payload-right,
+        texts-right recs pool i (s .identifier-right) (s .settings-right) (s .payload-right),
         lt-leb (endMs recs i) (startMs recs i) (s .lasts),
         le-ltb T (endMs recs i) (s .ends),
         lt-leb (tick scale (endMs recs i)) (tick scale (startMs recs i)) (s .ticks),

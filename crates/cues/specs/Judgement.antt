@@ -7,11 +7,13 @@ use lib.Dec.{leb, ltb, eqb}
 use lib.ListN.{length}
 use Rattle.base.specs.Choice.{one-of}
 use Rattle.base.specs.First.{first}
+use Rattle.viable.specs.FirstBad.{judgedBy}
 use Rattle.text.specs.Rules.{identifierText, payloadText}
+use Rattle.text.specs.Beginnings.{identifierBegun, payloadBegun}
 use Rattle.times.specs.Times.{tick, timelineAllowed}
 use Rattle.verdict.specs.declared.Verdict.{Verdict}
 use Rattle.verdict.specs.declared.Verdict.the-variants.{Fine}
-use Rattle.verdict.specs.Judgement.{refuse, _gives_at_, _then_, each}
+use Rattle.verdict.specs.Judgement.{refuse, _gives_at_, textAt, _then_, each}
 use Rattle.records.specs.Records.{count, sourceId, startMs, endMs, identifierLength, settingsLength, payloadLength, reserved, textsEnd, identifierOf, settingsOf, payloadOf}
 
 -- the ID is not below 2^31, or a reserved byte is not zero
@@ -26,9 +28,12 @@ tooLong recs i = one-of (ltb 255 (identifierLength recs i)) (one-of (ltb 255 (se
 unfoldable pub pastPool : List ℕ → List ℕ → ℕ → Bool
 pastPool recs pool i = ltb (length pool) (textsEnd recs i)
 
--- a text breaks its rule
-unfoldable pub badText : List ℕ → List ℕ → ℕ → Bool
-badText recs pool i = one-of (not (identifierText (identifierOf recs pool i))) (one-of (not (identifierText (settingsOf recs pool i))) (not (payloadText (payloadOf recs pool i))))
+-- the texts by their rules; of a record's texts the first bad one counts
+unfoldable pub judgeTexts : List ℕ → List ℕ → ℕ → Verdict
+judgeTexts recs pool i =
+    textAt i (judgedBy identifierText identifierBegun (identifierOf recs pool i))
+    then textAt i (judgedBy identifierText identifierBegun (settingsOf recs pool i))
+    then textAt i (judgedBy payloadText payloadBegun (payloadOf recs pool i))
 
 -- not start < end ≤ T, or the start's tick is not below the end's
 unfoldable pub badTime : ℕ → ℕ → List ℕ → ℕ → Bool
@@ -45,7 +50,7 @@ judgeRecord scale T recs pool i =
     badValue recs i gives 8 at i
     then tooLong recs i gives 9 at i
     then pastPool recs pool i gives 1 at i
-    then badText recs pool i gives 6 at i
+    then judgeTexts recs pool i
     then badTime scale T recs i gives 10 at i
     then startFalls recs i gives 11 at i
 

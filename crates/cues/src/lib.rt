@@ -10,18 +10,19 @@ use records::source_id;
 use records::start_ms;
 use records::text_offset;
 use records::texts_end;
-use text::is_identifier;
-use text::is_payload;
+use text::judge_identifier;
+use text::judge_payload;
 use times::tick_of;
 use times::timeline_allowed;
 use verdict::Verdict;
 use verdict::refused;
+use verdict::text_at;
 ghost use mathlib.Core.Path.{_≡_};
 ghost use Prim.Native.Nat.{_+_, _*_, _≤_, _<_};
 ghost use lib.ListN.{length};
 ghost use Rattle.verdict.specs.Judgement.{each};
 ghost use Rattle.records.specs.Records.{textsEnd};
-ghost use Rattle.cues.specs.Judgement.{badValue, tooLong, pastPool, badText, badTime, startFalls, judgeRecord, judgeIds, judgeList};
+ghost use Rattle.cues.specs.Judgement.{badValue, tooLong, pastPool, judgeTexts, badTime, startFalls, judgeRecord, judgeIds, judgeList};
 
 // The tests of the judgement, one by one.
 fn bad_value(records: &[u8], i: usize) -> bool
@@ -54,21 +55,24 @@ fn past_pool(records: &[u8], pool: &[u8], i: usize) -> bool
     pool.len() < texts_end(records, i)
 }
 
-fn bad_text(records: &[u8], pool: &[u8], i: usize) -> bool
+// The texts of record i, from the first on.
+fn judge_texts(records: &[u8], pool: &[u8], i: usize) -> Verdict
     requires { ⌜ (i * 24 + 24 ≤ length (now records)) × (textsEnd (now records) i ≤ length (now pool)) ⌝ }
-    ensures { λ r. ⌜ r ≡ badText (now (records .entry)) (now (pool .entry)) i ⌝ }
+    ensures { λ r. ⌜ r ≡ judgeTexts (now (records .entry)) (now (pool .entry)) i ⌝ }
 {
     let identifier = text_offset(records, i) as usize;
     let settings = settings_offset(records, i);
     let payload = payload_offset(records, i);
     let end = texts_end(records, i);
-    if !is_identifier(&pool[identifier..settings]) {
-        return true;
-    }
-    if !is_identifier(&pool[settings..payload]) {
-        return true;
-    }
-    !is_payload(&pool[payload..end])
+    let first = text_at(i, judge_identifier(&pool[identifier..settings]));
+    let Verdict::Fine = first else {
+        return first;
+    };
+    let second = text_at(i, judge_identifier(&pool[settings..payload]));
+    let Verdict::Fine = second else {
+        return second;
+    };
+    text_at(i, judge_payload(&pool[payload..end]))
 }
 
 fn bad_time(scale: u32, t: u32, records: &[u8], i: usize) -> bool
@@ -109,9 +113,10 @@ fn judge_record(scale: u32, t: u32, records: &[u8], pool: &[u8], i: usize) -> Ve
     if past_pool(records, pool, i) {
         return refused(1, i);
     }
-    if bad_text(records, pool, i) {
-        return refused(6, i);
-    }
+    let texts = judge_texts(records, pool, i);
+    let Verdict::Fine = texts else {
+        return texts;
+    };
     if bad_time(scale, t, records, i) {
         return refused(10, i);
     }

@@ -1,5 +1,6 @@
 pub mod Reading
 pub mod Demands
 pub mod Unpacking
-pub mod Numbers
+pub mod Offsets
+pub mod Refusals
 pub mod Cases

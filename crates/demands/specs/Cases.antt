@@ -77,7 +77,7 @@ ifUnpacked (RefusedTrack r) recs = (r .number ∷ r .place ∷ []) ∷ []
 
 abbrev pub ifCounted : Counted → List (List ℕ)
 ifCounted (Characters n) = (n ∷ []) ∷ []
-ifCounted Bad = []
+ifCounted (Bad q) = []
 
 -- packing with room for 1,000 bytes in each output
 unfoldable pub askPacking : ℕ → ℕ → List ℕ → List ℕ → List (List ℕ) → List (List ℕ)

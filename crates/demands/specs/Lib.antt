@@ -3,5 +3,6 @@ pub mod Calls
 pub mod Packing
 pub mod Checking
 pub mod Unpacking
-pub mod Numbers
+pub mod Offsets
+pub mod Refusals
 pub mod Cases

@@ -1,7 +1,7 @@
 -- The beginning and the end of a text.
 use Prim.Native.Nat.{ℕ, suc, _+_, _-_, _<_, _≤_}
-use mathlib.Core.Path.{_≡_, refl, sym, ap₂, _∙_}
-use mathlib.Core.Bool.{Bool, true, false}
+use mathlib.Core.Path.{_≡_, refl, ap₂}
+use mathlib.Core.Bool.{Bool, false}
 use mathlib.Core.List.{List, [], _∷_}
 use native.Mathlib.Omega.{arith}
 use native.Mathlib.Nat.{not-suc-le-zero}
@@ -10,9 +10,9 @@ use borrow.Author.Tests.{eq-eqb, ne-eqb}
 use lib.Dec.{eqb}
 use lib.ListN.{length, getD, drop, drop-of-length-le}
 use lib.Seq.{drop-cons}
-use Rattle.base.specs.Choice.{both, one-of}
+use Rattle.base.specs.Choice.{pick, one-of}
 use Rattle.base.proofs.Tests.{both-yes}
-use Rattle.utf8.specs.Strings.{CR, LF, startsWith, endsIn, beginsLine, endsLine}
+use Rattle.utf8.specs.Strings.{CR, LF, agree, endsIn, beginsLine, endsLine}
 
 -- the byte is CR or LF
 abbrev lineEnd : ℕ → Bool
@@ -40,25 +40,26 @@ last-line (b ∷ s) h =
     let e : length (b ∷ s) - 1 ≡ length s = omega arith in
     rw e (ap₂ one-of (ends-last CR b s) (ends-last LF b s))
 
--- one byte on in both
-starts-at : (p s : List ℕ) (i : ℕ) → i < length p → i < length s
-    → startsWith (drop i p) (drop i s) ≡ both (eqb (getD s i 0) (getD p i 0)) (startsWith (drop (i + 1) p) (drop (i + 1) s))
-unfolding startsWith
-starts-at p s i h k = rw (add-one, drop-cons p i 0 h, drop-cons s i 0 k)
+-- what is in common from place i on
+module _ (p s : List ℕ) (i A : ℕ) (g : i + agree (drop i p) (drop i s) ≡ A) where
+  pub agree-turn : i < length p → i < length s → getD s i 0 ≡ getD p i 0 → i + 1 + agree (drop (i + 1) p) (drop (i + 1) s) ≡ A
+  unfolding agree
+  agree-turn h k e =
+      let r : i + pick (eqb (getD s i 0) (getD p i 0)) (suc (agree (drop (suc i) p) (drop (suc i) s))) 0 ≡ A = rw (drop-cons p i 0 h, drop-cons s i 0 k) at g in
+      let t : i + suc (agree (drop (suc i) p) (drop (suc i) s)) ≡ A = rw (eq-eqb (getD s i 0) (getD p i 0) e) at r in
+      rw (add-one i) (omega arith)
 
-pub starts-turn : (p s : List ℕ) (i : ℕ) (A : Bool) → i < length p → i < length s → getD s i 0 ≡ getD p i 0 → startsWith (drop i p) (drop i s) ≡ A
-    → startsWith (drop (i + 1) p) (drop (i + 1) s) ≡ A
-starts-turn p s i A h k e g = let r = starts-at p s i h k in rw (eq-eqb (getD s i 0) (getD p i 0) e) at (sym r ∙ g)
+  pub agree-stop : i < length p → i < length s → (getD s i 0 ≡ getD p i 0 → ⊥) → i ≡ A
+  unfolding agree
+  agree-stop h k e =
+      let r : i + pick (eqb (getD s i 0) (getD p i 0)) (suc (agree (drop (suc i) p) (drop (suc i) s))) 0 ≡ A = rw (drop-cons p i 0 h, drop-cons s i 0 k) at g in
+      let t : i + 0 ≡ A = rw (ne-eqb (getD s i 0) (getD p i 0) e) at r in
+      omega arith
 
--- the string goes on with another byte
-pub starts-stop : (p s : List ℕ) (i : ℕ) (A : Bool) → i < length p → i < length s → (getD s i 0 ≡ getD p i 0 → ⊥) → startsWith (drop i p) (drop i s) ≡ A → A ≡ false
-starts-stop p s i A h k e g = let r = starts-at p s i h k in sym (rw (ne-eqb (getD s i 0) (getD p i 0) e) at (sym r ∙ g))
+  pub agree-short : i < length p → length s ≤ i → i ≡ A
+  unfolding agree
+  agree-short h k = let r : i + 0 ≡ A = rw (drop-cons p i 0 h, drop-of-length-le s k) at g in omega arith
 
--- the text is the shorter
-pub starts-short : (p s : List ℕ) (i : ℕ) (A : Bool) → i < length p → length s ≤ i → startsWith (drop i p) (drop i s) ≡ A → A ≡ false
-unfolding startsWith
-starts-short p s i A h k g = let r : startsWith (getD p i 0 ∷ drop (suc i) p) [] ≡ A = rw (drop-cons p i 0 h, drop-of-length-le s k) at g in sym r
-
-pub starts-end : (p s : List ℕ) (i : ℕ) (A : Bool) → length p ≤ i → startsWith (drop i p) (drop i s) ≡ A → A ≡ true
-unfolding startsWith
-starts-end p s i A h g = let r : startsWith [] (drop i s) ≡ A = rw (drop-of-length-le p h) at g in sym r
+  pub agree-end : length p ≤ i → i ≡ A
+  unfolding agree
+  agree-end h = let r : i + 0 ≡ A = rw (drop-of-length-le p h) at g in omega arith

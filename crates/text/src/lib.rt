@@ -1,13 +1,19 @@
-// The rules of document 01's texts.
+// The rules of document 01's texts. A text is right, or a judgement names its first bad byte (document 02, K2).
 use ascii::is_ascii;
 use ascii::is_unmarked;
 use utf8::Rule;
 use utf8::is_line_end;
-use utf8::keeps_rule;
+use utf8::judge_rule;
+use viable::Judged;
 ghost use mathlib.Core.Path.{_≡_};
-ghost use Rattle.utf8.specs.Utf8.{utf8};
-ghost use Rattle.utf8.specs.Strings.{startsWith, beginsLine, endsLine};
+ghost use Prim.Native.Nat.{_≤_};
+ghost use lib.ListN.{length};
+ghost use Rattle.viable.specs.FirstBad.{judgedBy};
+ghost use Rattle.utf8.specs.Utf8.{utf8, utf8Begun};
+ghost use Rattle.utf8.specs.Forbidden.{keeps, keepsBegun};
+ghost use Rattle.utf8.specs.Strings.{beginsLine, endsLine, agree};
 ghost use Rattle.text.specs.Rules.{identifierText, payloadText, configurationText, labelText};
+ghost use Rattle.text.specs.Beginnings.{identifierBegun, payloadBegun, configurationBegun, labelBegun, unended};
 
 fn begins_line(s: &[u8]) -> bool
     ensures { λ r. ⌜ r ≡ beginsLine (now (s .entry)) ⌝ }
@@ -27,71 +33,86 @@ fn ends_line(s: &[u8]) -> bool
     is_line_end(s[s.len() - 1])
 }
 
-pub fn starts_with(s: &[u8], p: &[u8]) -> bool
-    ensures { λ r. ⌜ r ≡ startsWith (now (p .entry)) (now (s .entry)) ⌝ }
+// How many bytes the texts have in common from the start.
+pub fn agreeing(s: &[u8], p: &[u8]) -> usize
+    ensures { λ r. ⌜ (r ≡ agree (now (p .entry)) (now (s .entry))) × (r ≤ length (now (p .entry))) ⌝ }
 {
     let mut i = 0;
     while i < p.len() {
         if s.len() <= i {
-            return false;
+            return i;
         }
         if s[i] != p[i] {
-            return false;
+            return i;
         }
         i += 1;
     }
-    true
+    i
 }
 
-// Whether the text is UTF-8 by RFC 3629.
-pub fn is_utf8(s: &[u8]) -> bool
-    ensures { λ r. ⌜ r ≡ utf8 (now (s .entry)) ⌝ }
+// The answer for a text that may not end in CR or LF.
+fn judge_end(j: Judged, s: &[u8]) -> Judged
+    ensures { λ r. ⌜ r ≡ unended j (now (s .entry)) ⌝ }
+{
+    let Judged::Right = j else {
+        return j;
+    };
+    if ends_line(s) {
+        return Judged::Bad(s.len());
+    }
+    Judged::Right
+}
+
+// UTF-8 by RFC 3629.
+pub fn judge_utf8(s: &[u8]) -> Judged
+    ensures { λ r. ⌜ r ≡ judgedBy utf8 utf8Begun (now (s .entry)) ⌝ }
 {
     if is_ascii(s) {
-        return true;
+        return Judged::Right;
     }
-    keeps_rule(s, Rule::Any)
+    judge_rule(s, Rule::Any)
 }
 
-// Whether the text may be an identifier or settings.
-pub fn is_identifier(s: &[u8]) -> bool
-    ensures { λ r. ⌜ r ≡ identifierText (now (s .entry)) ⌝ }
+// An identifier or settings.
+pub fn judge_identifier(s: &[u8]) -> Judged
+    ensures { λ r. ⌜ r ≡ judgedBy identifierText identifierBegun (now (s .entry)) ⌝ }
 {
-    keeps_rule(s, Rule::Line)
+    judge_rule(s, Rule::Line)
 }
 
-pub fn is_payload(s: &[u8]) -> bool
-    ensures { λ r. ⌜ r ≡ payloadText (now (s .entry)) ⌝ }
+// What a payload may hold. One more pass, in wide steps, is worth its time in a long text only.
+fn judge_inside(s: &[u8]) -> Judged
+    ensures { λ r. ⌜ r ≡ judgedBy (keeps Rule.Payload) (keepsBegun Rule.Payload) (now (s .entry)) ⌝ }
 {
-    if begins_line(s) {
-        return false;
-    }
-    if ends_line(s) {
-        return false;
-    }
-    // One more pass, in wide steps, is worth its time in a long text only.
     if 255 < s.len() {
         if is_unmarked(s) {
-            return true;
+            return Judged::Right;
         }
     }
-    keeps_rule(s, Rule::Payload)
+    judge_rule(s, Rule::Payload)
 }
 
-pub fn is_label(s: &[u8]) -> bool
-    ensures { λ r. ⌜ r ≡ labelText (now (s .entry)) ⌝ }
+pub fn judge_payload(s: &[u8]) -> Judged
+    ensures { λ r. ⌜ r ≡ judgedBy payloadText payloadBegun (now (s .entry)) ⌝ }
 {
-    if !is_utf8(s) {
-        return false;
+    if begins_line(s) {
+        return Judged::Bad(0);
     }
-    !ends_line(s)
+    judge_end(judge_inside(s), s)
 }
 
-pub fn is_configuration(s: &[u8]) -> bool
-    ensures { λ r. ⌜ r ≡ configurationText (now (s .entry)) ⌝ }
+pub fn judge_label(s: &[u8]) -> Judged
+    ensures { λ r. ⌜ r ≡ judgedBy labelText labelBegun (now (s .entry)) ⌝ }
 {
-    if !starts_with(s, b"WEBVTT") {
-        return false;
+    judge_end(judge_utf8(s), s)
+}
+
+pub fn judge_configuration(s: &[u8]) -> Judged
+    ensures { λ r. ⌜ r ≡ judgedBy configurationText configurationBegun (now (s .entry)) ⌝ }
+{
+    let n = agreeing(s, b"WEBVTT");
+    if n < 6 {
+        return Judged::Bad(n);
     }
-    is_label(s)
+    judge_label(s)
 }

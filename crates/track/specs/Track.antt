@@ -8,7 +8,7 @@ use lib.Dec.{ltb, eqb}
 use lib.ListN.{length}
 use Rattle.verdict.specs.declared.Verdict.{Verdict}
 use Rattle.verdict.specs.declared.Verdict.the-variants.{Fine, Refused}
-use Rattle.verdict.specs.Judgement.{refuse, _gives_at_, _then_, each}
+use Rattle.verdict.specs.Judgement.{moved, _gives_at_, _then_, each}
 use Rattle.fields.specs.BigEndian.{be}
 use Rattle.boxes.specs.Boxes.{part}
 use Rattle.timeline.specs.Lists.{listed}
@@ -36,10 +36,10 @@ offsetOf table (suc i) = offsetOf table i + sizeOf table i
 unfoldable pub bytesOf : List ℕ → List ℕ → ℕ → List ℕ
 bytesOf table samples i = part samples (offsetOf table i) (offsetOf table (suc i))
 
--- a reading's fault, with the sample's index for its place
+-- a reading's fault, with the sample's index for its place; number and offset stay
 abbrev pub placedAt : ℕ → Verdict → Verdict
 placedAt i Fine = Fine
-placedAt i (Refused r) = refuse (r .number) i
+placedAt i (Refused r) = Refused (moved i r)
 
 -- sample i: zero duration (10), size 0 (4), past the bytes (1), its reading
 unfoldable pub judgeRow : List ℕ → List ℕ → ℕ → Verdict

@@ -1,11 +1,11 @@
 // The judgement of a track: a table of 8-byte records, and the samples back to back.
 use fields::get32;
-use verdict::Refusal;
 use verdict::Verdict;
+use verdict::move_to;
 use verdict::refused;
 use wvtt::judge_sample;
 ghost use mathlib.Core.Path.{_≡_};
-ghost use Prim.Native.Nat.{suc, _+_, _*_, _≤_, _<_};
+ghost use Prim.Native.Nat.{_+_, _*_, _≤_, _<_};
 ghost use lib.ListN.{length};
 ghost use Rattle.track.specs.Track.{durationOf, sizeOf, offsetOf, placedAt, judgeRow, judgeTrack};
 
@@ -25,14 +25,14 @@ pub fn size_at(table: &[u8], i: usize) -> usize
     get32(table, i * 8 + 4) as usize
 }
 
-// The same number with the sample's index for its place.
+// The same refusal with the sample's index for its place.
 fn place_at(v: Verdict, i: usize) -> Verdict
     ensures { λ r. ⌜ r ≡ placedAt i v ⌝ }
 {
     let Verdict::Refused(why) = v else {
         return Verdict::Fine;
     };
-    refused(why.number, i)
+    Verdict::Refused(move_to(i, why))
 }
 
 // Sample i, whose bytes begin at `at`.

@@ -9,7 +9,7 @@ use lib.ListN.{length}
 use borrow.Author.Tests.{ltb-false, lt-ltb, le-ltb}
 use Rattle.verdict.specs.declared.Verdict.{Verdict}
 use Rattle.verdict.specs.declared.Verdict.the-variants.{Fine, Refused}
-use Rattle.verdict.specs.Judgement.{_gives_at_, _then_, refuse}
+use Rattle.verdict.specs.Judgement.{badText, _gives_at_, _then_, refuse}
 use Rattle.verdict.proofs.Judgement.{both-fine}
 use Rattle.characters.specs.declared.Counted.the-variants.{Characters, Bad}
 use Rattle.verdict.specs.declared.Refusal.{Refusal}
@@ -26,7 +26,7 @@ use Rattle.tx3g_fonts.specs.Fonts.{hasFont}
 use Rattle.tx3g_entry.specs.Entry.{nothingMore, fontsOf, judgeEntry}
 use Rattle.tx3g_sample.specs.declared.Reading.the-variants.{Good}
 use Rattle.tx3g_sample.specs.declared.Text.the-variants.{Whole, Bad as BadText}
-use Rattle.tx3g_sample.specs.Sample.{textEnd, counted, isBad, charactersIn, judgeText, inSample, modifiersOf, fontsIn, judgeModifiers, judgeSample, answerOf, readSample}
+use Rattle.tx3g_sample.specs.Sample.{textEnd, counted, countedAt, charactersIn, judgeText, inSample, modifiersOf, fontsIn, judgeModifiers, judgeSample, answerOf, readSample}
 use Rattle.tx3g_sample.specs.Terms.{textRead}
 
 -- the text past the bytes, a text that is bad, and one that is not
@@ -34,9 +34,9 @@ pub text-past : (s : List ℕ) → length s < textEnd s → judgeText s ≡ refu
 unfolding judgeText
 text-past s h = rw (lt-ltb (length s) (textEnd s) h)
 
-pub text-bad : (s : List ℕ) → textEnd s ≤ length s → counted s ≡ Bad → judgeText s ≡ refuse 6 0
+pub text-bad : (s : List ℕ) (q : ℕ) → textEnd s ≤ length s → counted s ≡ Bad q → judgeText s ≡ Refused (badText 0 q)
 unfolding judgeText
-text-bad s h e = rw (le-ltb (length s) (textEnd s) h, e)
+text-bad s q h e = rw (le-ltb (length s) (textEnd s) h, e)
 
 pub text-good : (s : List ℕ) (n : ℕ) → textEnd s ≤ length s → counted s ≡ Characters n → (judgeText s ≡ Fine) × (charactersIn s ≡ n)
 unfolding judgeText charactersIn
@@ -45,7 +45,7 @@ text-good s n h e = (rw (le-ltb (length s) (textEnd s) h, e), rw e)
 pub text-fine : (s : List ℕ) → judgeText s ≡ Fine → textEnd s ≤ length s
 unfolding judgeText
 text-fine s h =
-    let w = both-fine (ltb (length s) (textEnd s) gives 1 at 0) (isBad (counted s) gives 6 at 0) h in
+    let w = both-fine (ltb (length s) (textEnd s) gives 1 at 0) (countedAt 0 (counted s)) h in
     ltb-false (length s) (textEnd s) (fine-false (ltb (length s) (textEnd s)) 1 0 (w .0))
 
 pub count-past : (s : List ℕ) → 2 ≤ textEnd s

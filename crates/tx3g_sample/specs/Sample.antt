@@ -1,13 +1,13 @@
 -- The reading of a `tx3g` sample. Document 01, '3GPP text' and 'Order': a byte count (2), the text, then modifier boxes; the entry is judged first.
 use Prim.Native.Nat.{ℕ, _+_}
 use mathlib.Core.List.{List, []}
-use mathlib.Core.Bool.{Bool, true, false}
+use mathlib.Core.Bool.{Bool, false}
 use lib.Dec.{ltb}
 use lib.ListN.{length}
 use Rattle.base.specs.Choice.{pick, both}
 use Rattle.verdict.specs.declared.Verdict.{Verdict}
 use Rattle.verdict.specs.declared.Verdict.the-variants.{Fine, Refused}
-use Rattle.verdict.specs.Judgement.{_gives_at_, _then_}
+use Rattle.verdict.specs.Judgement.{badText, _gives_at_, _then_}
 use Rattle.fields.specs.BigEndian.{be}
 use Rattle.characters.specs.declared.Counted.{Counted}
 use Rattle.characters.specs.declared.Counted.the-variants.{Characters, Bad}
@@ -31,13 +31,14 @@ unfoldable pub counted : List ℕ → Counted
 unfolding textEnd
 counted s = charactersOf (part s 2 (textEnd s))
 
-abbrev pub isBad : Counted → Bool
-isBad (Characters n) = false
-isBad Bad = true
+-- bad text at place p
+abbrev pub countedAt : ℕ → Counted → Verdict
+countedAt p (Characters n) = Fine
+countedAt p (Bad q) = Refused (badText p q)
 
 abbrev pub countOf : Counted → ℕ
 countOf (Characters n) = n
-countOf Bad = 0
+countOf (Bad q) = 0
 
 unfoldable pub charactersIn : List ℕ → ℕ
 unfolding counted
@@ -46,7 +47,7 @@ charactersIn s = countOf (counted s)
 -- the text: bytes missing (1), a bad text (6)
 unfoldable pub judgeText : List ℕ → Verdict
 unfolding textEnd counted
-judgeText s = ltb (length s) (textEnd s) gives 1 at 0 then isBad (counted s) gives 6 at 0
+judgeText s = ltb (length s) (textEnd s) gives 1 at 0 then countedAt 0 (counted s)
 
 -- a box of a sample, with the kinds before it; other boxes are passed over
 unfoldable pub inSample : (ℕ → Bool) → ℕ → List ℕ → List ℕ → ℕ → ℕ → ℕ → ℕ → Verdict

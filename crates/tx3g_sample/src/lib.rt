@@ -15,6 +15,7 @@ use tx3g_seen::repeats;
 use tx3g_seen::with_kind;
 use verdict::Refusal;
 use verdict::Verdict;
+use verdict::bad_text_at;
 use verdict::fault_at;
 use verdict::refused;
 ghost use mathlib.Core.Path.{_≡_};
@@ -67,7 +68,7 @@ fn read_text(s: &[u8]) -> Text
     let t = count_characters(&s[2..end]);
     match t {
         Counted::Characters(n) => Text::Whole(n),
-        Counted::Bad => Text::Bad(fault_at(6, 0)),
+        Counted::Bad(offset) => Text::Bad(bad_text_at(0, offset)),
     }
 }
 

@@ -2,26 +2,30 @@
 use Prim.Native.Nat.{ℕ}
 use mathlib.Core.Path.{_≡_, sym}
 use mathlib.Core.Bool.{true, false}
-use mathlib.Core.List.{List}
+use mathlib.Core.List.{List, [], _++_, append-nil}
 use Rattle.base.proofs.Tests.{both-yes, both-no}
-use Rattle.utf8.specs.Utf8.{utf8}
+use Rattle.utf8.specs.Utf8.{judge, utf8, begun, utf8Begun}
 use Rattle.utf8.specs.Strings.{hasAny}
-use Rattle.utf8.specs.Forbidden.{forbidden, keeps}
+use Rattle.utf8.specs.Forbidden.{forbidden, keeps, keepsBegun}
 use Rattle.utf8.specs.declared.Rule.{Rule}
 use Rattle.utf8.specs.declared.Rule.the-variants.{Any}
 use Rattle.utf8.proofs.Windows.{any-none}
 
-pub keeps-no-utf8 : (rule : Rule) (s : List ℕ) → utf8 s ≡ false → false ≡ keeps rule s
-unfolding keeps
-keeps-no-utf8 rule s h = rw h
+pub keeps-clean : (rule : Rule) (s : List ℕ) → hasAny (forbidden rule) (s ++ []) ≡ false → judge (s ++ []) [] ≡ keeps rule s
+unfolding keeps utf8
+keeps-clean rule s h = let k : hasAny (forbidden rule) s ≡ false = rw (append-nil s) at h in rw (append-nil s, k) (sym (both-yes (judge s [])))
 
-pub keeps-found : (rule : Rule) (s : List ℕ) → hasAny (forbidden rule) s ≡ true → false ≡ keeps rule s
-unfolding keeps
-keeps-found rule s h = rw h (sym (both-no (utf8 s)))
+pub begun-clean : (rule : Rule) (s : List ℕ) → hasAny (forbidden rule) (s ++ []) ≡ false → begun (s ++ []) [] ≡ keepsBegun rule s
+unfolding keepsBegun utf8Begun
+begun-clean rule s h = let k : hasAny (forbidden rule) s ≡ false = rw (append-nil s) at h in rw (append-nil s, k) (sym (both-yes (begun s [])))
 
-pub keeps-clean : (rule : Rule) (s : List ℕ) → hasAny (forbidden rule) s ≡ false → utf8 s ≡ keeps rule s
-unfolding keeps
-keeps-clean rule s h = rw h (sym (both-yes (utf8 s)))
+pub begun-found : (rule : Rule) (s : List ℕ) → hasAny (forbidden rule) (s ++ []) ≡ true → keepsBegun rule s ≡ false
+unfolding keepsBegun
+begun-found rule s h = let k : hasAny (forbidden rule) s ≡ true = rw (append-nil s) at h in rw k (both-no (utf8Begun s))
+
+pub begun-no-utf8 : (rule : Rule) (s : List ℕ) → begun (s ++ []) [] ≡ false → keepsBegun rule s ≡ false
+unfolding keepsBegun utf8Begun
+begun-no-utf8 rule s h = let k : begun s [] ≡ false = rw (append-nil s) at h in rw k
 
 pub any-is : (s : List ℕ) → keeps Any s ≡ utf8 s
 unfolding keeps forbidden

@@ -1,31 +1,39 @@
 -- Laws of the machine of specs/Machine.antt: runs of it one after the other, past plain bytes, and through the whole text, which is the rule.
 use Prim.Native.Nat.{ℕ, zero, suc, _+_, _-_, _<_, _≤_}
-use mathlib.Core.Path.{_≡_, refl, sym, ap, _∙_}
+use mathlib.Core.Path.{_≡_, refl, sym, ap, _∙_, subst}
 use mathlib.Core.Logic.{_⊎_, inl, inr}
-use mathlib.Core.Bool.{Bool, true, false}
-use mathlib.Core.List.{List, [], _∷_}
+use mathlib.Core.Bool.{Bool, true, false, not}
+use mathlib.Core.List.{List, [], _∷_, _++_}
 use native.Mathlib.Omega.{arith}
 use native.Mathlib.Nat.{add-zero, add-suc, add-assoc, zero-add}
+use native.Mathlib.Numerals.{add-one}
 use borrow.Author.Tests.{eq-eqb, ne-eqb, ltb-true, ltb-false, lt-ltb, le-ltb, eqb-true, eqb-false, not-true}
 use lib.Dec.{eqb, ltb}
-use lib.ListN.{length, getD, drop}
+use lib.ListN.{length, getD, take, drop, take-append-drop}
+use lib.Seq.{take-suc, take-length, append-snoc}
 use Rattle.base.specs.Iter.{iter}
-use Rattle.base.proofs.Iter.{iter-begins, iter-turn, iter-stays}
+use Rattle.base.proofs.Iter.{iter-begins, iter-turn}
 use Rattle.base.specs.Choice.{one-of}
-use Rattle.base.proofs.Choice.{by-test, both-left, both-right}
+use Rattle.base.proofs.Choice.{by-test, both-left, both-right, true-false}
 use Rattle.base.proofs.Tests.{one-of-yes, one-of-first, one-of-second}
 use Rattle.ascii.specs.Ascii.{ascii, mark, unmarked, all}
-use Rattle.utf8.specs.Utf8.{utf8, classOf}
+use Rattle.utf8.specs.Utf8.{Range, utf8, judge, begun, classOf}
 use Rattle.utf8.specs.Strings.{CR, LF, GREATER, startsWithAny, hasAny}
-use Rattle.utf8.specs.Forbidden.{forbidden, keeps}
-use Rattle.utf8.specs.Machine.{endsForbidden, wordTable, next, before, step, run, plain, PlainRun, RunWhole}
+use Rattle.utf8.specs.Forbidden.{forbidden, keeps, keepsBegun}
+use Rattle.utf8.specs.Machine.{endsForbidden, wordTable, next, before, step, run, PassedIs, plain, PlainRun, RunWhole}
+use Rattle.utf8.specs.declared.Passed.{Passed}
+use Rattle.utf8.specs.declared.Passed.the-variants.{To, Bad as Stop}
 use Rattle.utf8.specs.declared.Rule.{Rule}
 use Rattle.utf8.specs.declared.Rule.the-variants.{Any, Line, Payload}
 use Rattle.utf8.proofs.Ranges.{inside}
 use Rattle.utf8.proofs.Classes.{next-small, class-small}
-use Rattle.utf8.proofs.States.{Good, start, turn, dead, end}
-use Rattle.utf8.proofs.Windows.{windows-start, windows-turn, windows-stop, windows-end, other-in-line, other-in-payload}
-use Rattle.utf8.proofs.Keeps.{keeps-no-utf8, keeps-found, keeps-clean, any-is}
+use Rattle.utf8.proofs.States.{Reads, judge-reads, begun-reads, Good, start, turn, dead, end}
+use Rattle.utf8.proofs.Windows.{windows-start, windows-ended, windows-turn, other-in-line, other-in-payload}
+use Rattle.utf8.proofs.Keeps.{keeps-clean, begun-no-utf8, begun-found, begun-clean, any-is}
+use Rattle.utf8.proofs.Begun.{keeps-begun, not-begun}
+use Rattle.viable.proofs.FirstBad.{closed, stops-here, stops-end, judged-bad}
+use Rattle.viable.specs.declared.Judged.the-variants.{Bad}
+use Rattle.viable.specs.FirstBad.{stopsAt, judgedBy}
 
 -- the two bytes before, one place on
 pub one-before : (s : List ℕ) (i : ℕ) → before 1 s (suc i) ≡ getD s i 0
@@ -126,6 +134,13 @@ module _ (rule : Rule) (s : List ℕ) where
       let w : run rule s 0 0 (i + (end - i)) ≡ run rule s st i (end - i) = rw (run-add 0 0 i (end - i), zero-add i, ← e) in
       e′ ∙ sym w ∙ ap (run rule s 0 0) n
 
+  -- a pass that does not stop
+  pub run-passed : (st x from end : ℕ) (r : Passed) → from ≤ end → st ≡ run rule s 0 0 from → PassedIs rule s st from end r → r ≡ To x → (x < 8) × (x ≡ run rule s 0 0 end)
+  unfolding PassedIs
+  run-passed st x from end r h e told found =
+      let w = subst (λ y. PassedIs rule s st from end y) found told in
+      (w .0, run-step st x from end h e (w .1))
+
   -- a loop from place `from` that stands at place i
   module _ (st₀ from : ℕ) where
     pub run-begins : st₀ ≡ run rule s st₀ from (from - from)
@@ -137,12 +152,6 @@ module _ (rule : Rule) (s : List ℕ) where
     run-turn st i h e =
         let m : i ≡ from + (i - from) = omega arith in
         iter-turn (λ k x. step rule s x (from + k)) st₀ from i st (step rule s st i) h e (ap (step rule s st) m)
-
-    pub run-fails : (st i end : ℕ) → from ≤ i → i < end → st ≡ run rule s st₀ from (i - from) → step rule s st i ≡ 8 → 8 ≡ run rule s st₀ from (end - from)
-    unfolding run
-    run-fails st i end h l e b =
-        let r : 8 ≡ run rule s st₀ from (i + 1 - from) = sym b ∙ run-turn st i h e in
-        iter-stays (λ k x. step rule s x (from + k)) st₀ (i + 1 - from) (end - from) 8 (omega arith) (λ j. step-stays 8 (from + j) refl) r
 
   -- a plain byte keeps state 0
   plain-step : (i : ℕ) → plain rule (getD s i 0) ≡ true → step rule s 0 i ≡ 0
@@ -160,50 +169,106 @@ module _ (rule : Rule) (s : List ℕ) where
       rw there (plain-step (i + n) here)
 
   module _ (bytes : (j : ℕ) → getD s j 0 < 256) where
-    -- at place n in state st: the rest decides, or a fault has been seen
-    abbrev Open : ℕ → ℕ → Type 0
-    Open st n =
-        (st < 9) × (Good st (drop n s) ≡ utf8 s) × (hasAny (forbidden rule) (before 2 s n ∷ before 1 s n ∷ []) ≡ false)
-        × (hasAny (forbidden rule) (before 2 s n ∷ before 1 s n ∷ drop n s) ≡ hasAny (forbidden rule) s)
+    -- after n bytes in state st: whatever follows, the state and the two bytes before decide
+    abbrev Lives : ℕ → ℕ → Type 0
+    Lives st n =
+        (st < 8) × ((f : List ℕ → List Range → Bool) → Reads f → (xs : List ℕ) → f (take n s ++ xs) [] ≡ Good f st xs)
+        × (hasAny (forbidden rule) (before 2 s n ∷ before 1 s n ∷ []) ≡ false)
+        × ((xs : List ℕ) → hasAny (forbidden rule) (take n s ++ xs) ≡ hasAny (forbidden rule) (before 2 s n ∷ before 1 s n ∷ xs))
 
-    abbrev Settled : ℕ → Type 0
-    Settled st = (st ≡ 8) × (false ≡ keeps rule s)
+    -- or no continuation is right
+    abbrev Dead : ℕ → ℕ → Type 0
+    Dead st n = (st ≡ 8) × (keepsBegun rule (take n s) ≡ false)
 
-    onward : (st n : ℕ) → n < length s → Open st n → Open (step rule s st n) (suc n) ⊎ Settled (step rule s st n)
+    one-more : (n : ℕ) → n < length s → (xs : List ℕ) → take (suc n) s ++ xs ≡ take n s ++ getD s n 0 ∷ xs
+    one-more n h xs = rw (take-suc s n 0 h) (append-snoc (take n s) (getD s n 0) xs)
+
+    onward : (st n : ℕ) → n < length s → Lives st n → Lives (step rule s st n) (suc n) ⊎ Dead (step rule s st n) (suc n)
     onward st n h o =
-        by-test (eqb st 8)
-        (λ t. let e = eqb-true st 8 t in inr (step-stays st n e, keeps-no-utf8 rule s (dead st (drop n s) (utf8 s) e (o .1))))
-        (λ t. by-test (endsAt n)
-        (λ f. inr (step-ends st n f, keeps-found rule s (sym (o .3) ∙ windows-stop rule s n (before 2 s n) (before 1 s n) (o .2) h f)))
-        (λ f.
-        let w = windows-turn rule s n (before 2 s n) (before 1 s n) (o .2) h f in
-        inl (rw (step-on st n (eqb-false st 8 t) f, two-before s n, one-before s n)
-        (next-small st (classOf (getD s n 0)) (o .0) (class-small (getD s n 0) (bytes n)), turn s n st h (bytes n) (o .0) ∙ o .1, w .0, w .1 ∙ o .3))))
+        let p = before 2 s n in
+        let q = before 1 s n in
+        let b = getD s n 0 in
+        let alive : st ≡ 8 → ⊥ = λ e. omega arith in
+        let u : (f : List ℕ → List Range → Bool) → Reads f → (xs : List ℕ) → f (take (suc n) s ++ xs) [] ≡ Good f (next st (classOf b)) xs =
+        λ f reads xs. ap (λ (t : List ℕ). f t []) (one-more n h xs) ∙ o .1 f reads (b ∷ xs) ∙ turn f reads st b xs (omega arith) (bytes n) in
+        let w : (xs : List ℕ) → hasAny (forbidden rule) (take (suc n) s ++ xs) ≡ hasAny (forbidden rule) (p ∷ q ∷ b ∷ xs) =
+        λ xs. ap (hasAny (forbidden rule)) (one-more n h xs) ∙ o .3 (b ∷ xs) in
+        by-test (endsAt n)
+        (λ e. inr (step-ends st n e, begun-found rule (take (suc n) s) (w [] ∙ windows-ended rule p q b (o .2) ∙ e)))
+        (λ e. by-test (eqb (next st (classOf b)) 8)
+        (λ t.
+        let z = eqb-true (next st (classOf b)) 8 t in
+        inr (step-bad st n z, begun-no-utf8 rule (take (suc n) s) (u begun begun-reads [] ∙ ap (λ (x : ℕ). Good begun x []) z ∙ dead begun [])))
+        (λ t.
+        let z = eqb-false (next st (classOf b)) 8 t in
+        let l = next-small st (classOf b) (omega arith) (class-small b (bytes n)) in
+        let y = windows-turn rule p q b (o .2) e in
+        inl (rw (step-on st n alive e, two-before s n, one-before s n) (omega arith, u, y [] .0, λ xs. w xs ∙ y xs .1))))
 
-    standing : (n : ℕ) → n ≤ length s → Open (run rule s 0 0 n) n ⊎ Settled (run rule s 0 0 n)
+    stays-dead : (n : ℕ) → n < length s → keepsBegun rule (take n s) ≡ false → keepsBegun rule (take (suc n) s) ≡ false
+    stays-dead n h k =
+        by-test (keepsBegun rule (take (suc n) s))
+        (λ e. true-false (keepsBegun rule (take n s)) (closed (keeps-begun rule) (take n s) (getD s n 0 ∷ []) (rw (take-suc s n 0 h) at e)) k)
+        (λ e. e)
+
+    standing : (n : ℕ) → n ≤ length s → Lives (run rule s 0 0 n) n ⊎ Dead (run rule s 0 0 n) n
     unfolding run iter before
-    standing zero h = let w = windows-start rule s in inl (omega arith, start s, w .0, w .1)
+    standing zero h = inl (omega arith, λ f reads xs. start f xs, windows-start rule [] .0, λ xs. windows-start rule xs .1)
     standing (suc n) h =
         elim (standing n (omega arith)) [
           | inl o ↦ rw (zero-add n) (onward (run rule s 0 0 n) n h o)
-          | inr b ↦ inr (step-stays (run rule s 0 0 n) (0 + n) (b .0), b .1)
+          | inr d ↦ inr (step-stays (run rule s 0 0 n) (0 + n) (d .0), stays-dead n h (d .1))
         ]
+
+    -- the machine lives exactly as long as the bytes are a beginning
+    pub run-begun : (n : ℕ) → n ≤ length s → not (eqb (run rule s 0 0 n) 8) ≡ keepsBegun rule (take n s)
+    run-begun n h =
+        elim (standing n h) [
+          | inl o ↦
+              end (run rule s 0 0 n) (omega arith) .1
+              ∙ sym (o .1 begun begun-reads [])
+              ∙ begun-clean rule (take n s) (o .3 [] ∙ o .2)
+          | inr d ↦ rw (eq-eqb (run rule s 0 0 n) 8 (d .0)) (sym (d .1))
+        ]
+
+    -- the byte that leads into state 8
+    pub run-stops : (st i : ℕ) → i < length s → st < 8 → st ≡ run rule s 0 0 i → 8 ≡ run rule s 0 0 (i + 1) → i ≡ stopsAt (keepsBegun rule) s
+    run-stops st i h l e z =
+        let live : keepsBegun rule (take i s) ≡ true = sym (run-begun i (omega arith)) ∙ rw (← e, ne-eqb st 8 (λ y. omega arith)) in
+        let over : keepsBegun rule (take (suc i) s) ≡ false = sym (run-begun (suc i) h) ∙ rw (← add-one i, ← z) in
+        sym (stops-here (keeps-begun rule) s i h live over)
 
     -- a fault in a part of the text
     pub run-bad : (n : ℕ) → n ≤ length s → run rule s 0 0 n ≡ 8 → false ≡ keeps rule s
     run-bad n h e =
-        elim (standing n h) [
-          | inl o ↦ keeps-no-utf8 rule s (dead (run rule s 0 0 n) (drop n s) (utf8 s) e (o .1))
-          | inr b ↦ b .1
-        ]
+        by-test (keeps rule s)
+        (λ k. true-false (keepsBegun rule (take n s)) (keeps-begun rule .begins (take n s) (drop n s) (rw (take-append-drop n s) k)) (sym (run-begun n h) ∙ rw e))
+        (λ k. sym k)
+
+    -- so a pass that stops names the first bad byte of the text
+    pub run-first : (st from end q : ℕ) (r : Passed) → end ≤ length s → st ≡ run rule s 0 0 from → PassedIs rule s st from end r → r ≡ Stop q → Bad q ≡ judgedBy (keeps rule) (keepsBegun rule) s
+    unfolding PassedIs
+    run-first st from end q r l e told found =
+        let h = subst (λ x. PassedIs rule s st from end x) found told in
+        let live = run-step st (run rule s st from (q - from)) from q (h .0) e refl in
+        let over = run-step st 8 from (q + 1) (omega arith) e (sym (h .3)) in
+        judged-bad (keeps rule) (keepsBegun rule) s q (sym (run-bad (q + 1) (omega arith) (sym over))) (run-stops (run rule s st from (q - from)) q (omega arith) (h .2) live over)
+
+    -- no byte does
+    pub run-ended : (st : ℕ) → st < 8 → st ≡ run rule s 0 0 (length s) → length s ≡ stopsAt (keepsBegun rule) s
+    run-ended st l e =
+        let live : keepsBegun rule s ≡ true = ap (keepsBegun rule) (sym (take-length s)) ∙ sym (run-begun (length s) (omega arith)) ∙ rw (← e, ne-eqb st 8 (λ y. omega arith)) in
+        sym (stops-end (keeps-begun rule) s live)
 
     run-end : eqb (run rule s 0 0 (length s)) 0 ≡ keeps rule s
     run-end =
         elim (standing (length s) (omega arith)) [
           | inl o ↦
-              end s (length s) (run rule s 0 0 (length s)) (utf8 s) (omega arith) (o .0) (o .1)
-              ∙ keeps-clean rule s (sym (o .3) ∙ windows-end rule s (length s) (before 2 s (length s)) (before 1 s (length s)) (o .2) (omega arith))
-          | inr b ↦ rw (b .0) (b .1)
+              end (run rule s 0 0 (length s)) (omega arith) .0
+              ∙ sym (o .1 judge judge-reads [])
+              ∙ keeps-clean rule (take (length s) s) (o .3 [] ∙ o .2)
+              ∙ ap (keeps rule) (take-length s)
+          | inr d ↦ rw (d .0) (sym (not-begun rule s (rw (take-length s) at d .1)))
         ]
 
 pub plain-run : PlainRun

@@ -11,7 +11,7 @@ use Rattle.base.proofs.Choice.{both-left, both-right, by-test, true-false}
 use Rattle.base.proofs.Tests.{one-of-yes}
 use Rattle.utf8.specs.Strings.{startsWith, startsWithAny, hasAny, Holds, HasAnyIs}
 
-split : (p s : List ℕ) → startsWith p s ≡ true → (b : List ℕ) × (s ≡ p ++ b)
+pub split : (p s : List ℕ) → startsWith p s ≡ true → (b : List ℕ) × (s ≡ p ++ b)
 unfolding startsWith
 split [] s h = (s, refl)
 split (x ∷ p) [] h = true-false false h refl

@@ -1,13 +1,12 @@
 -- Forbidden strings of at most three bytes, found by the byte that ends them and the two before it.
-use Prim.Native.Nat.{ℕ, suc, _<_, _≤_}
+use Prim.Native.Nat.{ℕ}
 use mathlib.Core.Path.{_≡_, refl, sym, ap, ap₂, _∙_}
 use mathlib.Core.Bool.{Bool, true, false}
 use mathlib.Core.List.{List, [], _∷_, _++_, reverse}
 use native.Mathlib.Omega.{arith}
 use borrow.Author.Tests.{ne-eqb}
 use lib.Dec.{T, eqb, leb, leb→le}
-use lib.ListN.{length, getD, drop, drop-of-length-le}
-use lib.Seq.{drop-cons}
+use lib.ListN.{length}
 use Rattle.base.specs.Choice.{both, one-of}
 use Rattle.base.proofs.Choice.{by-test, true-false, both-left, both-right}
 use Rattle.base.proofs.Table.{first-of, second-of}
@@ -91,7 +90,7 @@ slide ws p q b xs t h =
     let there = one-of-second (startsWithAny ws (p ∷ q ∷ b ∷ [])) (hasAny ws (q ∷ b ∷ [])) h in
     (there, ap (λ (x : Bool). one-of x (hasAny ws (q ∷ b ∷ xs))) (starts-any ws p q b xs t ∙ here))
 
-starts-more : (w v xs : List ℕ) → startsWith w v ≡ true → startsWith w (v ++ xs) ≡ true
+pub starts-more : (w v xs : List ℕ) → startsWith w v ≡ true → startsWith w (v ++ xs) ≡ true
 unfolding startsWith
 starts-more [] v xs h = refl
 starts-more (x ∷ w) [] xs h = true-false false h refl
@@ -109,7 +108,7 @@ starts-any-more (w ∷ ws) v xs h =
     (λ e. let k : startsWithAny ws v ≡ true = rw e at h in rw (starts-any-more ws v xs k) (one-of-yes (startsWith w (v ++ xs))))
 
 -- what stands in a text stands in every continuation of it
-any-more : (ws : List (List ℕ)) (v xs : List ℕ) → hasAny ws v ≡ true → hasAny ws (v ++ xs) ≡ true
+pub any-more : (ws : List (List ℕ)) (v xs : List ℕ) → hasAny ws v ≡ true → hasAny ws (v ++ xs) ≡ true
 unfolding hasAny
 any-more ws [] xs h = true-false false h refl
 any-more ws (b ∷ v) xs h =
@@ -118,30 +117,21 @@ any-more ws (b ∷ v) xs h =
     (λ e. let k : hasAny ws v ≡ true = rw e at h in rw (any-more ws v xs k) (one-of-yes (startsWithAny ws (b ∷ (v ++ xs)))))
 
 -- spaces in front of the text end and begin no forbidden string
-pub windows-start : (rule : Rule) (s : List ℕ) → (hasAny (forbidden rule) (32 ∷ 32 ∷ []) ≡ false) × (hasAny (forbidden rule) (32 ∷ 32 ∷ drop 0 s) ≡ hasAny (forbidden rule) s)
+pub windows-start : (rule : Rule) (xs : List ℕ) → (hasAny (forbidden rule) (32 ∷ 32 ∷ []) ≡ false) × (hasAny (forbidden rule) xs ≡ hasAny (forbidden rule) (32 ∷ 32 ∷ xs))
 unfolding hasAny forbidden notInLine notInPayload
-windows-start Any s = (refl, refl)
-windows-start Line s = (refl, refl)
-windows-start Payload s = (refl, refl)
+windows-start Any xs = (refl, refl)
+windows-start Line xs = (refl, refl)
+windows-start Payload xs = (refl, refl)
 
-module _ (rule : Rule) (s : List ℕ) (i p q : ℕ) (clean : hasAny (forbidden rule) (p ∷ q ∷ []) ≡ false) where
-  ended : endsForbidden (forbidden rule) p q (getD s i 0) ≡ hasAny (forbidden rule) (p ∷ q ∷ getD s i 0 ∷ [])
-  ended = sym (ends-any (forbidden rule) p q (getD s i 0) (forbidden-short rule) clean)
+module _ (rule : Rule) (p q b : ℕ) (clean : hasAny (forbidden rule) (p ∷ q ∷ []) ≡ false) where
+  -- whether a forbidden string has ended
+  pub windows-ended : hasAny (forbidden rule) (p ∷ q ∷ b ∷ []) ≡ endsForbidden (forbidden rule) p q b
+  windows-ended = ends-any (forbidden rule) p q b (forbidden-short rule) clean
 
-  -- past a byte that ends no forbidden string
-  pub windows-turn : i < length s → endsForbidden (forbidden rule) p q (getD s i 0) ≡ false
-      → (hasAny (forbidden rule) (q ∷ getD s i 0 ∷ []) ≡ false) × (hasAny (forbidden rule) (q ∷ getD s i 0 ∷ drop (suc i) s) ≡ hasAny (forbidden rule) (p ∷ q ∷ drop i s))
-  windows-turn h still =
-      let t = slide (forbidden rule) p q (getD s i 0) (drop (suc i) s) (forbidden-short rule) (sym ended ∙ still) in
-      (t .0, rw (drop-cons s i 0 h) (sym (t .1)))
-
-  -- a forbidden string has ended
-  pub windows-stop : i < length s → endsForbidden (forbidden rule) p q (getD s i 0) ≡ true → hasAny (forbidden rule) (p ∷ q ∷ drop i s) ≡ true
-  windows-stop h found = rw (drop-cons s i 0 h) (any-more (forbidden rule) (p ∷ q ∷ getD s i 0 ∷ []) (drop (suc i) s) (sym ended ∙ found))
-
-  -- the text has ended
-  pub windows-end : length s ≤ i → hasAny (forbidden rule) (p ∷ q ∷ drop i s) ≡ false
-  windows-end h = rw (drop-of-length-le s h) clean
+  -- past a byte that ends none
+  pub windows-turn : endsForbidden (forbidden rule) p q b ≡ false → (xs : List ℕ)
+      → (hasAny (forbidden rule) (q ∷ b ∷ []) ≡ false) × (hasAny (forbidden rule) (p ∷ q ∷ b ∷ xs) ≡ hasAny (forbidden rule) (q ∷ b ∷ xs))
+  windows-turn still xs = slide (forbidden rule) p q b xs (forbidden-short rule) (windows-ended ∙ still)
 
 -- a byte that is none of those tested before it
 pub other-in-line : (p q b : ℕ) → (b ≡ GREATER → ⊥) → (b ≡ 0 → ⊥) → one-of (eqb b CR) (eqb b LF) ≡ endsForbidden notInLine p q b

@@ -1,6 +1,6 @@
 -- Terms of the contracts of private functions: the machine that judges a text byte by byte, its words, and plain bytes. A reader need not believe them:
 -- `run-whole` says that the machine's run through a text is the rule, and `plain-run` that plain bytes may be passed at a stride.
-use Prim.Native.Nat.{ℕ, _+_, _-_, _*_, _/_, _%_, _^_, _<_}
+use Prim.Native.Nat.{ℕ, _+_, _-_, _*_, _/_, _%_, _^_, _<_, _≤_}
 use mathlib.Core.Path.{_≡_}
 use mathlib.Core.Bool.{Bool, true}
 use mathlib.Core.List.{List, [], _∷_, map, reverse}
@@ -12,6 +12,8 @@ use Rattle.ascii.specs.Ascii.{ascii, unmarked, all}
 use Rattle.utf8.specs.Utf8.{classOf}
 use Rattle.utf8.specs.Strings.{startsWithAny}
 use Rattle.utf8.specs.Forbidden.{forbidden, keeps}
+use Rattle.utf8.specs.declared.Passed.{Passed}
+use Rattle.utf8.specs.declared.Passed.the-variants.{To, Bad}
 use Rattle.utf8.specs.declared.Rule.{Rule}
 use Rattle.utf8.specs.declared.Rule.the-variants.{Any, Line, Payload}
 
@@ -41,6 +43,11 @@ step rule s st i =
 -- the state after the n bytes from i
 unfoldable pub run : Rule → List ℕ → ℕ → ℕ → ℕ → ℕ
 run rule s st i n = iter (λ k x. step rule s x (i + k)) st n
+
+-- what is said of a pass over the bytes from `from` to `end`: the state after them, or the byte that leads into state 8
+unfoldable pub PassedIs : Rule → List ℕ → ℕ → ℕ → ℕ → Passed → Type 0
+PassedIs rule s start from end (To st) = (st < 8) × (st ≡ run rule s start from (end - from))
+PassedIs rule s start from end (Bad i) = (from ≤ i) × (i < end) × (run rule s start from (i - from) < 8) × (run rule s start from (i + 1 - from) ≡ 8)
 
 -- ASCII that ends no forbidden string, whatever stands before it
 unfoldable pub plain : Rule → ℕ → Bool

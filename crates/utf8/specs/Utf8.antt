@@ -55,6 +55,16 @@ judge (b ∷ xs) (r ∷ rs) = both (within (r .0) (r .1) b) (judge xs rs)
 unfoldable pub utf8 : List ℕ → Bool
 utf8 s = judge s []
 
+-- as `judge`, and the bytes may end within a character
+unfoldable pub begun : List ℕ → List Range → Bool
+begun [] rs = true
+begun (b ∷ xs) [] = onSome (follow b) (λ rs. begun xs rs)
+begun (b ∷ xs) (r ∷ rs) = both (within (r .0) (r .1) b) (begun xs rs)
+
+-- a beginning of valid UTF-8
+unfoldable pub utf8Begun : List ℕ → Bool
+utf8Begun s = begun s []
+
 -- 0: 00-7F, 1: 80-8F, 2: 90-9F, 3: A0-BF, 4: C2-DF, 5: E0, 6: E1-EC, EE, EF, 7: ED, 8: F0, 9: F1-F3, 10: F4, 11: C0, C1, F5-FF
 unfoldable pub classOf : ℕ → ℕ
 classOf b =

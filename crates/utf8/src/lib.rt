@@ -5,16 +5,18 @@ use ascii::is_ascii8;
 use ascii::is_unmarked8;
 use tables::CLASSES;
 use tables::WORDS;
+use viable::Judged;
 ghost use mathlib.Core.Path.{_≡_};
-ghost use Prim.Native.Nat.{_+_, _-_, _<_, _≤_};
+ghost use Prim.Native.Nat.{_+_, _<_, _≤_};
 ghost use lib.Dec.{eqb};
 ghost use lib.ListN.{length};
 ghost use Rattle.base.specs.Choice.{both, one-of};
 ghost use Rattle.ascii.specs.Ascii.{all};
 ghost use Rattle.utf8.specs.Utf8.{classOf, classTable};
 ghost use Rattle.utf8.specs.Strings.{CR, LF, DASH};
-ghost use Rattle.utf8.specs.Forbidden.{notInLine, notInPayload, forbidden, keeps};
-ghost use Rattle.utf8.specs.Machine.{endsForbidden, wordTable, next, before, run, plain, blockEnd};
+ghost use Rattle.viable.specs.FirstBad.{judgedBy};
+ghost use Rattle.utf8.specs.Forbidden.{notInLine, notInPayload, forbidden, keeps, keepsBegun};
+ghost use Rattle.utf8.specs.Machine.{endsForbidden, wordTable, next, before, PassedIs, plain, blockEnd};
 
 // What a text may not hold.
 pub enum Rule {
@@ -24,6 +26,14 @@ pub enum Rule {
     Line,
     // As in a payload.
     Payload,
+}
+
+// What the machine comes to over some bytes.
+enum Passed {
+    // The state after them.
+    To(usize),
+    // The byte after which no continuation is right.
+    Bad(usize),
 }
 
 // The class of a byte, by the table that the caller holds: a constant array is made anew at each place that names it.
@@ -113,7 +123,7 @@ fn byte_before(s: &[u8], i: usize, k: usize) -> u8
     s[i - k]
 }
 
-// The state after the bytes from `from` up to `end`, one by one; 8, where no continuation is right.
+// The bytes from `from` up to `end`, one by one, after those that lead to `start`.
 fn pass_bytes(
     classes: &[u8],
     words: &[u64],
@@ -122,9 +132,9 @@ fn pass_bytes(
     from: usize,
     end: usize,
     start: usize,
-) -> usize
+) -> Passed
     requires { ⌜ (now classes ≡ classTable) × (now words ≡ wordTable) × (from ≤ end) × (end ≤ length (now s)) × (start < 8) ⌝ }
-    ensures { λ r. ⌜ (r ≡ run rule (now (s .entry)) start from (end - from)) × (r < 9) ⌝ }
+    ensures { λ r. ⌜ PassedIs rule (now (s .entry)) start from end r ⌝ }
 {
     let mut state = start;
     let mut p = byte_before(s, from, 2);
@@ -135,16 +145,16 @@ fn pass_bytes(
         let class = class_in(classes, b);
         state = next_in(words, state, class);
         if state == 8 {
-            return 8;
+            return Passed::Bad(i);
         }
         if ends_forbidden(rule, p, q, b) {
-            return 8;
+            return Passed::Bad(i);
         }
         p = q;
         q = b;
         i += 1;
     }
-    state
+    Passed::To(state)
 }
 
 // Whether the eight bytes from i are plain: the rule's machine stays in state 0.
@@ -171,14 +181,14 @@ fn pass_block(
     from: usize,
     end: usize,
     start: usize,
-) -> usize
+) -> Passed
     requires { ⌜ (now classes ≡ classTable) × (now words ≡ wordTable) × (from ≤ end) × (end ≤ length (now s)) × (start < 8) ⌝ }
-    ensures { λ r. ⌜ (r ≡ run rule (now (s .entry)) start from (end - from)) × (r < 9) ⌝ }
+    ensures { λ r. ⌜ PassedIs rule (now (s .entry)) start from end r ⌝ }
 {
     if start == 0 {
         if end - from == 8 {
             if is_plain8(rule, s, from) {
-                return 0;
+                return Passed::To(0);
             }
         }
     }
@@ -196,9 +206,9 @@ fn block_end(i: usize, end: usize) -> usize
     i + 8
 }
 
-// Whether the text is UTF-8 and holds no forbidden string, in one pass that ends at the first bad byte.
-pub fn keeps_rule(s: &[u8], rule: Rule) -> bool
-    ensures { λ r. ⌜ r ≡ keeps rule (now (s .entry)) ⌝ }
+// Whether the text is UTF-8 and holds no forbidden string, and else where it is bad, in one pass that ends there.
+pub fn judge_rule(s: &[u8], rule: Rule) -> Judged
+    ensures { λ r. ⌜ r ≡ judgedBy (keeps rule) (keepsBegun rule) (now (s .entry)) ⌝ }
 {
     let classes = CLASSES;
     let words = WORDS;
@@ -206,11 +216,17 @@ pub fn keeps_rule(s: &[u8], rule: Rule) -> bool
     let mut i = 0;
     while i < s.len() {
         let end = block_end(i, s.len());
-        state = pass_block(&classes, &words, s, rule, i, end, state);
-        if state == 8 {
-            return false;
+        let passed = pass_block(&classes, &words, s, rule, i, end, state);
+        match passed {
+            Passed::Bad(offset) => return Judged::Bad(offset),
+            Passed::To(next) => {
+                state = next;
+            }
         }
         i = end;
     }
-    state == 0
+    if state == 0 {
+        return Judged::Right;
+    }
+    Judged::Bad(s.len())
 }

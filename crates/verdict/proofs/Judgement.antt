@@ -8,7 +8,12 @@ use native.Mathlib.Numerals.{add-one}
 use Rattle.verdict.specs.declared.Refusal.{Refusal}
 use Rattle.verdict.specs.declared.Verdict.{Verdict}
 use Rattle.verdict.specs.declared.Verdict.the-variants.{Fine, Refused}
-use Rattle.verdict.specs.Judgement.{_gives_at_, _then_, each}
+use mathlib.Core.List.{List}
+use Rattle.viable.specs.FirstBad.{judgedBy}
+use Rattle.viable.proofs.FirstBad.{judged-right, when-right}
+use Rattle.viable.specs.declared.Judged.{Judged}
+use Rattle.viable.specs.declared.Judged.the-variants.{Right, Bad}
+use Rattle.verdict.specs.Judgement.{_gives_at_, textAt, _then_, each}
 
 pub then-fine : (v w : Verdict) → v ≡ Fine → v then w ≡ w
 then-fine v w e = rw e
@@ -29,6 +34,18 @@ both-fine (Refused r) w e = let z : _≡_ {A = ℕ} 0 1 = cc in absurd (omega ar
 pub not-given : (b : Bool) (n p : ℕ) → b gives n at p ≡ Fine → b ≡ false
 not-given true n p e = let z : _≡_ {A = ℕ} 0 1 = cc in absurd (omega arith)
 not-given false n p e = refl
+
+-- a text gives no fault exactly if it keeps its rule
+right-fine : (p : ℕ) (j : Judged) → textAt p j ≡ Fine → j ≡ Right
+right-fine p Right e = refl
+right-fine p (Bad q) e = let z : _≡_ {A = ℕ} 0 1 = cc in absurd (omega arith)
+
+module _ (keeps begun : List ℕ → Bool) (p : ℕ) (s : List ℕ) where
+  pub text-fine : textAt p (judgedBy keeps begun s) ≡ Fine → keeps s ≡ true
+  text-fine e = when-right keeps begun s (right-fine p (judgedBy keeps begun s) e)
+
+  pub text-right : keeps s ≡ true → textAt p (judgedBy keeps begun s) ≡ Fine
+  text-right h = ap (textAt p) (sym (judged-right keeps begun s h))
 
 -- one turn of a loop
 pub each-more : (f : ℕ → Verdict) (k : ℕ) → each f k ≡ Fine → f k ≡ Fine → each f (k + 1) ≡ Fine

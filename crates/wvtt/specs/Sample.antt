@@ -7,9 +7,11 @@ use lib.ListN.{length}
 use Rattle.base.specs.Choice.{pick, both, one-of}
 use Rattle.verdict.specs.declared.Verdict.{Verdict}
 use Rattle.verdict.specs.declared.Verdict.the-variants.{Fine}
-use Rattle.verdict.specs.Judgement.{_gives_at_, _then_}
+use Rattle.verdict.specs.Judgement.{_gives_at_, textAt, _then_}
 use Rattle.fields.specs.BigEndian.{be}
+use Rattle.viable.specs.FirstBad.{judgedBy}
 use Rattle.text.specs.Rules.{identifierText, payloadText}
+use Rattle.text.specs.Beginnings.{identifierBegun, payloadBegun}
 use Rattle.boxes.specs.Boxes.{boxesIn, passed, judged, among, times, part}
 use Rattle.wvtt.specs.Kinds.{vttc, vtte, vsid, payl, line, single}
 
@@ -18,16 +20,16 @@ unfoldable pub judgeId : List ℕ → ℕ → ℕ → ℕ → Verdict
 judgeId s p b n = ltb (n - b) 4 gives 1 at p then ltb 4 (n - b) gives 2 at p then leb 0x80000000 (be 4 s b) gives 8 at p
 
 -- a text has at most `limit` bytes and follows its rule
-unfoldable pub judgeText : (List ℕ → Bool) → ℕ → List ℕ → ℕ → ℕ → ℕ → Verdict
-judgeText rule limit s p b n = ltb limit (n - b) gives 9 at p then not (rule (part s b n)) gives 6 at p
+unfoldable pub judgeText : (List ℕ → Bool) → (List ℕ → Bool) → ℕ → List ℕ → ℕ → ℕ → ℕ → Verdict
+judgeText keeps begun limit s p b n = ltb limit (n - b) gives 9 at p then textAt p (judgedBy keeps begun (part s b n))
 
 -- the body of a box of a cue; others are passed over
 unfoldable pub judgeBody : List ℕ → ℕ → ℕ → ℕ → ℕ → Verdict
 unfolding judgeId judgeText
 judgeBody s p k b n =
     pick (eqb k vsid) (judgeId s p b n)
-    (pick (eqb k payl) (judgeText payloadText 4095 s p b n)
-    (pick (line k) (judgeText identifierText 255 s p b n)
+    (pick (eqb k payl) (judgeText payloadText payloadBegun 4095 s p b n)
+    (pick (line k) (judgeText identifierText identifierBegun 255 s p b n)
     Fine))
 
 -- a box of a cue, with the kinds before it

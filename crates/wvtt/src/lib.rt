@@ -5,20 +5,21 @@ use boxes::pass_boxes;
 use boxes::step_at;
 use boxes::stopped_by;
 use fields::get32;
-use text::is_identifier;
-use text::is_payload;
+use text::judge_identifier;
 use verdict::Verdict;
 use verdict::refused;
+use verdict::text_at;
 ghost use mathlib.Core.Path.{_≡_};
 ghost use mathlib.Core.Bool.{not};
 ghost use mathlib.Core.List.{List, _∷_};
 ghost use Prim.Native.Nat.{ℕ, suc, _≤_, _<_};
 ghost use lib.ListN.{length};
 ghost use lib.Dec.{eqb};
-ghost use Rattle.base.specs.Choice.{pick, both, one-of};
+ghost use Rattle.base.specs.Choice.{pick, both};
 ghost use Rattle.verdict.specs.Judgement.{_gives_at_, _then_};
 ghost use Rattle.boxes.specs.Boxes.{stoppedBy, among};
 ghost use Rattle.text.specs.Rules.{identifierText, payloadText};
+ghost use Rattle.text.specs.Beginnings.{identifierBegun, payloadBegun};
 ghost use Rattle.wvtt.specs.Kinds.{line, single};
 ghost use Rattle.wvtt.specs.Sample.{judgeId, judgeText, judgeBody, inCue, judgeCue, inSample, endCounts, judgeSample};
 ghost use Rattle.wvtt.specs.Seen.{Marks};
@@ -66,29 +67,23 @@ fn judge_id(s: &[u8], place: usize, body: usize, next: usize) -> Verdict
 // A text under the identifier's rule.
 fn judge_line(s: &[u8], place: usize, body: usize, next: usize) -> Verdict
     requires { ⌜ (body ≤ next) × (next ≤ length (now s)) ⌝ }
-    ensures { λ r. ⌜ r ≡ judgeText identifierText 255 (now (s .entry)) place body next ⌝ }
+    ensures { λ r. ⌜ r ≡ judgeText identifierText identifierBegun 255 (now (s .entry)) place body next ⌝ }
 {
     if 255 < next - body {
         return refused(9, place);
     }
-    if is_identifier(&s[body..next]) {
-        return Verdict::Fine;
-    }
-    refused(6, place)
+    text_at(place, judge_identifier(&s[body..next]))
 }
 
 // The text of a `payl`.
 fn judge_payload(s: &[u8], place: usize, body: usize, next: usize) -> Verdict
     requires { ⌜ (body ≤ next) × (next ≤ length (now s)) ⌝ }
-    ensures { λ r. ⌜ r ≡ judgeText payloadText 4095 (now (s .entry)) place body next ⌝ }
+    ensures { λ r. ⌜ r ≡ judgeText payloadText payloadBegun 4095 (now (s .entry)) place body next ⌝ }
 {
     if 4095 < next - body {
         return refused(9, place);
     }
-    if is_payload(&s[body..next]) {
-        return Verdict::Fine;
-    }
-    refused(6, place)
+    text_at(place, text::judge_payload(&s[body..next]))
 }
 
 fn is_line(kind: u32) -> bool

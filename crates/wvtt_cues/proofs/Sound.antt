@@ -2,20 +2,21 @@
 use Prim.Native.Nat.{ℕ, _-_, _≤_, _<_}
 use mathlib.Core.Path.{_≡_, refl}
 use mathlib.Core.List.{List, [], _∷_}
-use mathlib.Core.Bool.{Bool, true, false, not}
+use mathlib.Core.Bool.{Bool, true, false}
 use mathlib.Core.Option.{none, some}
 use native.Mathlib.Omega.{arith}
 use lib.Dec.{eqb, ltb, leb}
 use lib.ListN.{length, length-take}
-use borrow.Author.Tests.{ltb-false, leb-false, eqb-true, not-false}
+use borrow.Author.Tests.{ltb-false, leb-false, eqb-true}
 use Rattle.base.specs.Choice.{pick, both}
 use Rattle.base.proofs.Choice.{by-test}
 use Rattle.verdict.specs.declared.Verdict.{Verdict}
 use Rattle.verdict.specs.declared.Verdict.the-variants.{Fine}
 use Rattle.verdict.specs.Judgement.{_gives_at_}
-use Rattle.verdict.proofs.Judgement.{both-fine, not-given}
+use Rattle.verdict.proofs.Judgement.{both-fine, not-given, text-fine}
 use Rattle.fields.specs.BigEndian.{be}
 use Rattle.text.specs.Rules.{identifierText, payloadText}
+use Rattle.text.specs.Beginnings.{identifierBegun, payloadBegun}
 use Rattle.boxes.specs.Boxes.{Boxes, clean, broken, box, boxesIn, passed, judged, among, part}
 use Rattle.utf8.specs.Utf8.{utf8, judge}
 use Rattle.utf8.specs.Strings.{hasAny, beginsLine, endsLine}
@@ -51,12 +52,12 @@ found-fine P s k last f (box p j b n rest) before x e h =
 TextFine : (List ℕ → Bool) → ℕ → List ℕ → Type 0
 TextFine rule limit t = (length t ≤ limit) × (rule t ≡ true)
 
-text-fine : (rule : List ℕ → Bool) (limit : ℕ) (s : List ℕ) (p b n : ℕ) → judgeText rule limit s p b n ≡ Fine → TextFine rule limit (part s b n)
+limited : (rule begun : List ℕ → Bool) (limit : ℕ) (s : List ℕ) (p b n : ℕ) → judgeText rule begun limit s p b n ≡ Fine → TextFine rule limit (part s b n)
 unfolding judgeText TextFine part
-text-fine rule limit s p b n e =
+limited rule begun limit s p b n e =
     let w = both-fine (ltb limit (n - b) gives 9 at p) _ e in
     let l = ltb-false limit (n - b) (not-given (ltb limit (n - b)) 9 p (w .0)) in
-    (rw length-take (omega arith), not-false (rule (part s b n)) (not-given (not (rule (part s b n))) 6 p (w .1)))
+    (rw length-take (omega arith), text-fine rule begun p (part s b n) (w .1))
 
 -- an ID below 2^31, where there is one
 IdFine : List ℕ → Part → Type 0
@@ -83,11 +84,11 @@ unfolding textOf nowhere part
 no-text s = refl
 
 module _ (s : List ℕ) (p b n : ℕ) (e : judgeCue s p b n ≡ Fine) where
-  found-text : (rule : List ℕ → Bool) (limit k : ℕ) → rule [] ≡ true → ((q f m : ℕ) → judgeBody s q k f m ≡ Fine → judgeText rule limit s q f m ≡ Fine)
+  found-text : (rule begun : List ℕ → Bool) (limit k : ℕ) → rule [] ≡ true → ((q f m : ℕ) → judgeBody s q k f m ≡ Fine → judgeText rule begun limit s q f m ≡ Fine)
       → TextFine rule limit (textOf s (bodyOf k nowhere (boxesIn s b n)))
   unfolding judgeCue TextFine textOf
-  found-text rule limit k r f =
-      found-fine (λ x. TextFine rule limit (textOf s x)) s k (endCue p) (λ q g m h. text-fine rule limit s q g m (f q g m h)) (boxesIn s b n) [] nowhere e
+  found-text rule begun limit k r f =
+      found-fine (λ x. TextFine rule limit (textOf s x)) s k (endCue p) (λ q g m h. limited rule begun limit s q g m (f q g m h)) (boxesIn s b n) [] nowhere e
       (rw (no-text s) (omega arith, r))
 
   found-id : IdFine s (bodyOf vsid nowhere (boxesIn s b n))
@@ -105,9 +106,9 @@ cue-sound : (s : List ℕ) (p b n : ℕ) → judgeCue s p b n ≡ Fine → Sound
 unfolding heldBy partsOf withId judgeBody line TextFine
 cue-sound s p b n e =
     let v = bodyOf vsid nowhere (boxesIn s b n) in
-    let i = found-text s p b n e identifierText 255 iden empty-line (λ q f m h. h) in
-    let g = found-text s p b n e identifierText 255 sttg empty-line (λ q f m h. h) in
-    let t = found-text s p b n e payloadText 4095 payl empty-payload (λ q f m h. h) in
+    let i = found-text s p b n e identifierText identifierBegun 255 iden empty-line (λ q f m h. h) in
+    let g = found-text s p b n e identifierText identifierBegun 255 sttg empty-line (λ q f m h. h) in
+    let t = found-text s p b n e payloadText payloadBegun 4095 payl empty-payload (λ q f m h. h) in
     record {
       id-below = some-id s v (eqb (v .end - v .from) 4) refl (found-id s p b n e);
       identifier-most = i .0;

@@ -1,15 +1,17 @@
 -- The judgement of a `wvtt` sample entry: 16 bytes (size, type, 6 unjudged, data reference index), then boxes. Document 01, 'WebVTT samples'.
 use Prim.Native.Nat.{ℕ}
 use mathlib.Core.List.{List, []}
-use mathlib.Core.Bool.{Bool, not}
+use mathlib.Core.Bool.{not}
 use lib.Dec.{eqb}
 use lib.ListN.{length}
 use Rattle.base.specs.Choice.{pick, both, one-of}
 use Rattle.verdict.specs.declared.Verdict.{Verdict}
 use Rattle.verdict.specs.declared.Verdict.the-variants.{Fine}
-use Rattle.verdict.specs.Judgement.{_gives_at_, _then_}
+use Rattle.verdict.specs.Judgement.{_gives_at_, textAt, _then_}
+use Rattle.viable.specs.FirstBad.{judgedBy}
 use Rattle.boxes.specs.Boxes.{boxesIn, judged, among, part}
 use Rattle.text.specs.Rules.{configurationText, labelText}
+use Rattle.text.specs.Beginnings.{configurationBegun, labelBegun}
 use Rattle.entry_head.specs.Head.{judgeHead}
 
 -- `wvtt`; the boxes `vttC` (configuration) and `vlab` (label)
@@ -25,8 +27,8 @@ vlab = 0x766C6162
 -- the text of a box: of `vttC` a configuration, of `vlab` a label; others are passed over
 unfoldable pub judgeContent : List ℕ → ℕ → ℕ → ℕ → ℕ → Verdict
 judgeContent e p k b n =
-    pick (eqb k vttC) (not (configurationText (part e b n)) gives 6 at p)
-    (pick (eqb k vlab) (not (labelText (part e b n)) gives 6 at p)
+    pick (eqb k vttC) (textAt p (judgedBy configurationText configurationBegun (part e b n)))
+    (pick (eqb k vlab) (textAt p (judgedBy labelText labelBegun (part e b n)))
     Fine)
 
 -- a box of an entry, with the kinds before it

@@ -4,10 +4,11 @@ use boxes::mark_kind;
 use boxes::step_at;
 use boxes::stopped_by;
 use entry_head::judge_head;
-use text::is_configuration;
-use text::is_label;
+use text::judge_configuration;
+use text::judge_label;
 use verdict::Verdict;
 use verdict::refused;
+use verdict::text_at;
 ghost use mathlib.Core.Path.{_≡_};
 ghost use mathlib.Core.Bool.{not};
 ghost use mathlib.Core.List.{List, []};
@@ -31,16 +32,10 @@ fn judge_content(e: &[u8], place: usize, kind: u32, body: usize, next: usize) ->
     ensures { λ r. ⌜ r ≡ judgeContent (now (e .entry)) place kind body next ⌝ }
 {
     if kind == CONFIGURATION {
-        if is_configuration(&e[body..next]) {
-            return Verdict::Fine;
-        }
-        return refused(6, place);
+        return text_at(place, judge_configuration(&e[body..next]));
     }
     if kind == LABEL {
-        if is_label(&e[body..next]) {
-            return Verdict::Fine;
-        }
-        return refused(6, place);
+        return text_at(place, judge_label(&e[body..next]));
     }
     Verdict::Fine
 }

@@ -13,6 +13,7 @@ use Rattle.base.specs.Choice.{pick, both}
 use Rattle.verdict.specs.declared.Verdict.{Verdict}
 use Rattle.verdict.specs.declared.Verdict.the-variants.{Fine}
 use Rattle.verdict.specs.Judgement.{_gives_at_}
+use Rattle.verdict.proofs.Judgement.{text-right}
 use Rattle.fields.specs.BigEndian.{be, bytes}
 use Rattle.fields.proofs.BigEndian.{length-bytes, be-bytes}
 use Rattle.boxes.specs.Boxes.{boxesF, boxesIn, passed, judged, among, times, part}
@@ -22,6 +23,7 @@ use Rattle.timeline.specs.Cues.{Body}
 use Rattle.wvtt.specs.Kinds.{vttc, vtte, vsid, iden, sttg, payl, line, single}
 use Rattle.wvtt.specs.Sample.{judgeId, judgeText, judgeBody, inCue, endCue, judgeCue, inSample, endSample, judgeSample}
 use Rattle.text.specs.Rules.{identifierText, payloadText}
+use Rattle.text.specs.Beginnings.{identifierBegun, payloadBegun}
 use Rattle.wvtt.specs.Sound.{Sound, AllSound}
 use Rattle.wvtt_cues.specs.declared.Part.{Part}
 use Rattle.wvtt_cues.specs.Cues.{nowhere, placed, bodyOf, withId, partsOf, textOf, heldBy, cuesIn, sampleCues}
@@ -89,21 +91,21 @@ good-id n h s p b m e l =
     let w : be 4 s b ≡ n = sym (be-part 4 s b m (omega arith)) ∙ ap (λ (x : List ℕ). be 4 x 0) e ∙ be-bytes 4 n (omega arith) in
     rw (w, le-ltb (m - b) 4 (omega arith), le-ltb 4 (m - b) (omega arith), lt-leb 2147483648 n h)
 
-text-fine : (rule : List ℕ → Bool) (limit : ℕ) (t s : List ℕ) (p b m : ℕ) → length t ≤ limit → rule t ≡ true → part s b m ≡ t → m ≡ b + length t → judgeText rule limit s p b m ≡ Fine
+text-fine : (rule begun : List ℕ → Bool) (limit : ℕ) (t s : List ℕ) (p b m : ℕ) → length t ≤ limit → rule t ≡ true → part s b m ≡ t → m ≡ b + length t → judgeText rule begun limit s p b m ≡ Fine
 unfolding judgeText
-text-fine rule limit t s p b m h r e l = rw (e, r, le-ltb limit (m - b) (omega arith))
+text-fine rule begun limit t s p b m h r e l = rw (le-ltb limit (m - b) (omega arith), e) (text-right rule begun p t r)
 
 good-payload : (t : List ℕ) → length t ≤ 4095 → payloadText t ≡ true → GoodItem (record { kind = payl; body = t })
 unfolding GoodItem judgeBody
-good-payload t h r s p b m e l = text-fine payloadText 4095 t s p b m h r e l
+good-payload t h r s p b m e l = text-fine payloadText payloadBegun 4095 t s p b m h r e l
 
 good-identifier : (t : List ℕ) → length t ≤ 255 → identifierText t ≡ true → GoodItem (record { kind = iden; body = t })
 unfolding GoodItem judgeBody line
-good-identifier t h r s p b m e l = text-fine identifierText 255 t s p b m h r e l
+good-identifier t h r s p b m e l = text-fine identifierText identifierBegun 255 t s p b m h r e l
 
 good-settings : (t : List ℕ) → length t ≤ 255 → identifierText t ≡ true → GoodItem (record { kind = sttg; body = t })
 unfolding GoodItem judgeBody line
-good-settings t h r s p b m e l = text-fine identifierText 255 t s p b m h r e l
+good-settings t h r s p b m e l = text-fine identifierText identifierBegun 255 t s p b m h r e l
 
 -- the items of a cue are good, and a payload is among them
 texts-good : (i g t before : List ℕ) → among iden before ≡ false → among sttg before ≡ false → among payl before ≡ false

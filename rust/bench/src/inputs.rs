@@ -88,7 +88,16 @@ pub fn texts(seed: u64, languages: &[&[&str]], long: bool) -> Vec<Vec<u8>> {
 pub fn letters() -> Vec<Vec<u8>> {
     let mut random = Random::new(4095);
     let mut letter = |_| b'a' + random.below(26) as u8;
-    (0..32).map(|_| (0..4095).map(&mut letter).collect()).collect()
+    (0..32)
+        .map(|_| (0..4095).map(&mut letter).collect())
+        .collect()
+}
+
+/// Such texts with one bad byte.
+pub fn bad_letters(at: usize) -> Vec<Vec<u8>> {
+    let mut texts = letters();
+    texts.iter_mut().for_each(|text| text[at] = 0xFF);
+    texts
 }
 
 /// A cue list and its track.

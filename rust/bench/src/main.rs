@@ -40,6 +40,9 @@ fn main() {
             bench_texts(&inputs::texts(9, words, long), &format!("{name}, {length}"));
         }
     }
+    head("");
+    bench_bad_texts(2047, "4,095 letters, one bad in the middle");
+    bench_bad_texts(4094, "4,095 letters, the last bad");
 }
 
 /// A rival that asks about one input, hidden from the optimizer.
@@ -273,8 +276,8 @@ fn bench_texts(texts: &[Vec<u8>], input: &str) {
     let times = measure(
         &bytes,
         [
-            &mut test(captions::is_utf8),
-            &mut test(plain::text::is_utf8),
+            &mut test(|text| captions::judge_utf8(text).is_ok()),
+            &mut test(|text| plain::text::utf8_fault(text).is_none()),
             &mut test(classes::is_utf8),
             &mut test(|text| std::str::from_utf8(text).is_ok()),
         ],
@@ -283,8 +286,8 @@ fn bench_texts(texts: &[Vec<u8>], input: &str) {
     let times = measure(
         &bytes,
         [
-            &mut test(captions::is_payload),
-            &mut test(plain::text::is_payload),
+            &mut test(|text| captions::judge_payload(text).is_ok()),
+            &mut test(|text| plain::text::payload_fault(text).is_none()),
         ],
     );
     row("payload", input, "byte", &times);
@@ -296,4 +299,31 @@ fn bench_texts(texts: &[Vec<u8>], input: &str) {
         ],
     );
     row("characters", input, "byte", &times);
+}
+
+/// Refused texts: both sides say where they are bad.
+fn bench_bad_texts(at: usize, input: &str) {
+    let texts = &inputs::bad_letters(at);
+    let ones = vec![1; texts.len()];
+    let refused = |offset: Option<usize>| {
+        assert_eq!(offset, Some(at), "the text is bad elsewhere");
+        at
+    };
+    let offset = |judged: Result<(), captions::Refusal>| judged.err().map(|r| r.offset);
+    let times = measure(
+        &ones,
+        [
+            &mut each(texts, |text| refused(offset(captions::judge_utf8(text)))),
+            &mut each(texts, |text| refused(plain::text::utf8_fault(text))),
+        ],
+    );
+    row("UTF-8", input, "text", &times);
+    let times = measure(
+        &ones,
+        [
+            &mut each(texts, |text| refused(offset(captions::judge_payload(text)))),
+            &mut each(texts, |text| refused(plain::text::payload_fault(text))),
+        ],
+    );
+    row("payload", input, "text", &times);
 }

@@ -5,23 +5,23 @@
 
 #[repr(C)]
 #[derive(Clone, Copy, Debug, PartialEq, Eq)]
-pub struct CaptionsJudgement {
+pub struct CaptionsRefusal {
     pub number: u32,
     pub place: usize,
+    pub offset: usize,
 }
 
 #[repr(C)]
 #[derive(Clone, Copy, Debug, PartialEq, Eq)]
 pub struct CaptionsCount {
-    pub number: u32,
+    pub refusal: CaptionsRefusal,
     pub characters: usize,
 }
 
 #[repr(C)]
 #[derive(Clone, Copy, Debug, PartialEq, Eq)]
 pub struct CaptionsStep {
-    pub number: u32,
-    pub place: usize,
+    pub refusal: CaptionsRefusal,
     pub found: bool,
     pub kind: u32,
     pub body: usize,
@@ -31,8 +31,7 @@ pub struct CaptionsStep {
 #[repr(C)]
 #[derive(Clone, Copy, Debug, PartialEq, Eq)]
 pub struct CaptionsCue {
-    pub number: u32,
-    pub place: usize,
+    pub refusal: CaptionsRefusal,
     pub found: bool,
     pub named: bool,
     pub id: u32,
@@ -48,8 +47,7 @@ pub struct CaptionsCue {
 #[repr(C)]
 #[derive(Clone, Copy, Debug, PartialEq, Eq)]
 pub struct CaptionsPacked {
-    pub number: u32,
-    pub place: usize,
+    pub refusal: CaptionsRefusal,
     pub samples: usize,
     pub tablebytes: usize,
     pub samplebytes: usize,
@@ -58,8 +56,7 @@ pub struct CaptionsPacked {
 #[repr(C)]
 #[derive(Clone, Copy, Debug, PartialEq, Eq)]
 pub struct CaptionsUnpacked {
-    pub number: u32,
-    pub place: usize,
+    pub refusal: CaptionsRefusal,
     pub recordbytes: usize,
     pub poolbytes: usize,
     pub t: u32,
@@ -68,18 +65,16 @@ pub struct CaptionsUnpacked {
 #[repr(C)]
 #[derive(Clone, Copy, Debug, PartialEq, Eq)]
 pub struct CaptionsTx3g {
+    pub refusal: CaptionsRefusal,
     pub who: u32,
-    pub number: u32,
-    pub place: usize,
     pub characters: usize,
 }
 
 #[repr(C)]
 #[derive(Clone, Copy, Debug, PartialEq, Eq)]
 pub struct CaptionsStyle {
+    pub refusal: CaptionsRefusal,
     pub who: u32,
-    pub number: u32,
-    pub place: usize,
     pub start: u32,
     pub end: u32,
     pub font: u32,
@@ -94,8 +89,7 @@ pub struct CaptionsStyle {
 #[repr(C)]
 #[derive(Clone, Copy, Debug, PartialEq, Eq)]
 pub struct CaptionsModifier {
-    pub number: u32,
-    pub place: usize,
+    pub refusal: CaptionsRefusal,
     pub found: bool,
     pub kind: u32,
     pub first: u32,
@@ -112,26 +106,25 @@ pub struct CaptionsModifier {
 #[repr(C)]
 #[derive(Clone, Copy, Debug, PartialEq, Eq)]
 pub struct CaptionsTextBox {
+    pub refusal: CaptionsRefusal,
     pub who: u32,
-    pub number: u32,
-    pub place: usize,
     pub insample: bool,
     pub offset: usize,
 }
 
 extern "C" {
-    pub fn captions_is_utf8(text: *const u8, text_len: usize) -> bool;
-    pub fn captions_is_identifier(text: *const u8, text_len: usize) -> bool;
-    pub fn captions_is_payload(text: *const u8, text_len: usize) -> bool;
-    pub fn captions_is_configuration(text: *const u8, text_len: usize) -> bool;
-    pub fn captions_is_label(text: *const u8, text_len: usize) -> bool;
+    pub fn captions_judge_utf8(text: *const u8, text_len: usize) -> CaptionsRefusal;
+    pub fn captions_judge_identifier(text: *const u8, text_len: usize) -> CaptionsRefusal;
+    pub fn captions_judge_payload(text: *const u8, text_len: usize) -> CaptionsRefusal;
+    pub fn captions_judge_configuration(text: *const u8, text_len: usize) -> CaptionsRefusal;
+    pub fn captions_judge_label(text: *const u8, text_len: usize) -> CaptionsRefusal;
     pub fn captions_count_characters(text: *const u8, text_len: usize) -> CaptionsCount;
     pub fn captions_step(bytes: *const u8, bytes_len: usize, at: usize) -> CaptionsStep;
     pub fn captions_tick(scale: u32, ms: u32) -> u64;
     pub fn captions_ms(scale: u32, tick: u64) -> u64;
-    pub fn captions_judge_sample(sample: *const u8, sample_len: usize) -> CaptionsJudgement;
+    pub fn captions_judge_sample(sample: *const u8, sample_len: usize) -> CaptionsRefusal;
     pub fn captions_next_cue(sample: *const u8, sample_len: usize, from: usize) -> CaptionsCue;
-    pub fn captions_judge_wvtt_entry(entry: *const u8, entry_len: usize) -> CaptionsJudgement;
+    pub fn captions_judge_wvtt_entry(entry: *const u8, entry_len: usize) -> CaptionsRefusal;
     pub fn captions_judge_list(
         scale: u32,
         t: u32,
@@ -139,13 +132,13 @@ extern "C" {
         records_len: usize,
         pool: *const u8,
         pool_len: usize,
-    ) -> CaptionsJudgement;
+    ) -> CaptionsRefusal;
     pub fn captions_judge_track(
         table: *const u8,
         table_len: usize,
         samples: *const u8,
         samples_len: usize,
-    ) -> CaptionsJudgement;
+    ) -> CaptionsRefusal;
     pub fn captions_pack(
         scale: u32,
         t: u32,
@@ -180,8 +173,8 @@ extern "C" {
         table_len: usize,
         samples: *const u8,
         samples_len: usize,
-    ) -> CaptionsJudgement;
-    pub fn captions_judge_tx3g_entry(entry: *const u8, entry_len: usize) -> CaptionsJudgement;
+    ) -> CaptionsRefusal;
+    pub fn captions_judge_tx3g_entry(entry: *const u8, entry_len: usize) -> CaptionsRefusal;
     pub fn captions_judge_tx3g_sample(
         entry: *const u8,
         entry_len: usize,

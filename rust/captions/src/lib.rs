@@ -1,8 +1,9 @@
 //! Safe functions over the proved captions library: WebVTT (`wvtt`) and 3GPP text (`tx3g`)
 //! samples and sample entries, cue lists and tracks.
 //!
-//! Everything works on lent bytes. A refusal gives a [`Reason`] and a place and writes
-//! nothing; on success bytes past the result keep their content.
+//! Everything works on lent bytes. A refusal gives a [`Reason`], a place and, of a bad text, the
+//! offset at which it is bad, and writes nothing; on success bytes past the result keep their
+//! content.
 
 pub mod ffi;
 mod refusal;
@@ -25,43 +26,51 @@ pub fn milliseconds(scale: u32, tick: u64) -> Option<u64> {
     (scale != 0 && tick < 1 << 48).then_some(ms)
 }
 
-/// Whether the text is UTF-8 by RFC 3629.
-pub fn is_utf8(text: &[u8]) -> bool {
+/// Judges a text as UTF-8 by RFC 3629. Refused: 6, place 0.
+#[inline]
+pub fn judge_utf8(text: &[u8]) -> Result<(), Refusal> {
     // SAFETY: pointer and length of a slice.
-    unsafe { ffi::captions_is_utf8(text.as_ptr(), text.len()) }
+    judged(unsafe { ffi::captions_judge_utf8(text.as_ptr(), text.len()) })
 }
 
-/// Whether the text keeps the rule of identifiers and settings, length aside: UTF-8 without
-/// zero byte, CR, LF or `-->`.
-pub fn is_identifier(text: &[u8]) -> bool {
+/// Judges a text by the rule of identifiers and settings, length aside: UTF-8 without zero
+/// byte, CR, LF or `-->`. Refused: 6, place 0.
+#[inline]
+pub fn judge_identifier(text: &[u8]) -> Result<(), Refusal> {
     // SAFETY: pointer and length of a slice.
-    unsafe { ffi::captions_is_identifier(text.as_ptr(), text.len()) }
+    judged(unsafe { ffi::captions_judge_identifier(text.as_ptr(), text.len()) })
 }
 
-/// Whether the text keeps the rule of payloads, length aside: UTF-8 without zero byte or
-/// `-->`, no line of it empty.
-pub fn is_payload(text: &[u8]) -> bool {
+/// Judges a text by the rule of payloads, length aside: UTF-8 without zero byte or `-->`, no
+/// line of it empty. Refused: 6, place 0.
+#[inline]
+pub fn judge_payload(text: &[u8]) -> Result<(), Refusal> {
     // SAFETY: pointer and length of a slice.
-    unsafe { ffi::captions_is_payload(text.as_ptr(), text.len()) }
+    judged(unsafe { ffi::captions_judge_payload(text.as_ptr(), text.len()) })
 }
 
-/// Whether the text may be a `vttC` body: UTF-8 from `WEBVTT` on, not ending in CR or LF.
-pub fn is_configuration(text: &[u8]) -> bool {
+/// Judges a text as a `vttC` body: UTF-8 from `WEBVTT` on, not ending in CR or LF. Refused: 6,
+/// place 0.
+#[inline]
+pub fn judge_configuration(text: &[u8]) -> Result<(), Refusal> {
     // SAFETY: pointer and length of a slice.
-    unsafe { ffi::captions_is_configuration(text.as_ptr(), text.len()) }
+    judged(unsafe { ffi::captions_judge_configuration(text.as_ptr(), text.len()) })
 }
 
-/// Whether the text may be a `vlab` body: UTF-8 not ending in CR or LF.
-pub fn is_label(text: &[u8]) -> bool {
+/// Judges a text as a `vlab` body: UTF-8 not ending in CR or LF. Refused: 6, place 0.
+#[inline]
+pub fn judge_label(text: &[u8]) -> Result<(), Refusal> {
     // SAFETY: pointer and length of a slice.
-    unsafe { ffi::captions_is_label(text.as_ptr(), text.len()) }
+    judged(unsafe { ffi::captions_judge_label(text.as_ptr(), text.len()) })
 }
 
-/// The characters of a `tx3g` text, UTF-8 or UTF-16 after FE FF; none for bad text.
-pub fn count_characters(text: &[u8]) -> Option<usize> {
+/// The characters of a `tx3g` text, UTF-8 or UTF-16 after FE FF. Refused: 6, place 0.
+#[inline]
+pub fn count_characters(text: &[u8]) -> Result<usize, Refusal> {
     // SAFETY: pointer and length of a slice.
     let count = unsafe { ffi::captions_count_characters(text.as_ptr(), text.len()) };
-    (count.number == 0).then_some(count.characters)
+    judged(count.refusal)?;
+    Ok(count.characters)
 }
 
 /// A box: its type and where it stands.
@@ -81,7 +90,7 @@ pub struct BoxAt {
 pub fn step(bytes: &[u8], at: usize) -> Result<Option<BoxAt>, Refusal> {
     // SAFETY: pointer and length of a slice.
     let step = unsafe { ffi::captions_step(bytes.as_ptr(), bytes.len(), at) };
-    judged(step.number, step.place)?;
+    judged(step.refusal)?;
     Ok(step.found.then_some(BoxAt {
         kind: step.kind.to_be_bytes(),
         place: at,
@@ -94,7 +103,7 @@ pub fn step(bytes: &[u8], at: usize) -> Result<Option<BoxAt>, Refusal> {
 pub fn judge_sample(sample: &[u8]) -> Result<(), Refusal> {
     // SAFETY: pointer and length of a slice.
     let answer = unsafe { ffi::captions_judge_sample(sample.as_ptr(), sample.len()) };
-    judged(answer.number, answer.place)
+    judged(answer)
 }
 
 /// A cue of a sample. No identifier and an empty one are alike, as with settings.
@@ -140,7 +149,7 @@ impl<'a> Iterator for Cues<'a> {
 pub fn judge_wvtt_entry(entry: &[u8]) -> Result<(), Refusal> {
     // SAFETY: pointer and length of a slice.
     let answer = unsafe { ffi::captions_judge_wvtt_entry(entry.as_ptr(), entry.len()) };
-    judged(answer.number, answer.place)
+    judged(answer)
 }
 
 /// Judges a cue list of 24-byte records and their pool on the timeline of `t` ms.
@@ -157,7 +166,7 @@ pub fn judge_list(scale: u32, t: u32, records: &[u8], pool: &[u8]) -> Result<(),
             pool.len(),
         )
     };
-    judged(answer.number, answer.place)
+    judged(answer)
 }
 
 /// Judges a track: a table of 8-byte records and its samples. Refused: 1 to 6, 8 to 10; the
@@ -167,7 +176,7 @@ pub fn judge_track(table: &[u8], samples: &[u8]) -> Result<(), Refusal> {
     let answer = unsafe {
         ffi::captions_judge_track(table.as_ptr(), table.len(), samples.as_ptr(), samples.len())
     };
-    judged(answer.number, answer.place)
+    judged(answer)
 }
 
 /// What packing wrote.
@@ -204,7 +213,7 @@ pub fn pack(
             samples.len(),
         )
     };
-    judged(packed.number, packed.place)?;
+    judged(packed.refusal)?;
     Ok(Packed {
         samples: packed.samples,
         table_bytes: packed.tablebytes,
@@ -245,7 +254,7 @@ pub fn unpack(
             pool.len(),
         )
     };
-    judged(unpacked.number, unpacked.place)?;
+    judged(unpacked.refusal)?;
     Ok(Unpacked {
         record_bytes: unpacked.recordbytes,
         pool_bytes: unpacked.poolbytes,
@@ -279,5 +288,5 @@ pub fn check(
             samples.len(),
         )
     };
-    judged(answer.number, answer.place)
+    judged(answer)
 }

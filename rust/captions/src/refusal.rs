@@ -3,6 +3,8 @@
 use std::error::Error;
 use std::fmt::{self, Display};
 
+use crate::ffi::CaptionsRefusal;
+
 /// The numbers given back, 1 to 17.
 #[repr(u32)]
 #[derive(Clone, Copy, Debug, PartialEq, Eq, PartialOrd, Ord, Hash)]
@@ -72,6 +74,7 @@ impl Reason {
     }
 
     /// The reason of a number other than 0. The library gives none above 17.
+    #[inline]
     pub(crate) fn of(number: u32) -> Self {
         REASONS[number as usize - 1].0
     }
@@ -83,26 +86,43 @@ impl Display for Reason {
     }
 }
 
-/// Why something was refused, and where: a byte, or the index of a record or a sample.
+/// Why something was refused, and where.
 #[derive(Clone, Copy, Debug, PartialEq, Eq)]
 pub struct Refusal {
     pub reason: Reason,
+    /// A byte of a sample or an entry, or the index of a record or a sample.
     pub place: usize,
+    /// Where a bad text is bad, from the text's start: the first byte after which no
+    /// continuation could be right, or the text's length where it ends too early. Of a record's
+    /// texts the first bad one counts. 0 for every other reason.
+    pub offset: usize,
 }
 
-/// Nothing for 0, else the refusal.
-pub(crate) fn judged(number: u32, place: usize) -> Result<(), Refusal> {
-    if number == 0 {
+/// Nothing for number 0, else the refusal.
+#[inline]
+pub(crate) fn judged(answer: CaptionsRefusal) -> Result<(), Refusal> {
+    if answer.number == 0 {
         return Ok(());
     }
-    let reason = Reason::of(number);
-    Err(Refusal { reason, place })
+    Err(Refusal {
+        reason: Reason::of(answer.number),
+        place: answer.place,
+        offset: answer.offset,
+    })
 }
 
 impl Display for Refusal {
     fn fmt(&self, f: &mut fmt::Formatter) -> fmt::Result {
-        let Refusal { reason, place } = self;
-        write!(f, "refused {} {place}: {reason}", reason.number())
+        let Refusal {
+            reason,
+            place,
+            offset,
+        } = self;
+        write!(f, "refused {} {place}", reason.number())?;
+        if *reason == BadText {
+            write!(f, ", byte {offset}")?;
+        }
+        write!(f, ": {reason}")
     }
 }
 
@@ -117,5 +137,36 @@ mod tests {
         for (index, (reason, _)) in REASONS.into_iter().enumerate() {
             assert_eq!(reason.number() as usize, index + 1);
         }
+    }
+
+    #[test]
+    fn number_0_is_no_refusal() {
+        let answer = |number, place, offset| CaptionsRefusal {
+            number,
+            place,
+            offset,
+        };
+        assert_eq!(judged(answer(0, 0, 0)), Ok(()));
+        let refused = Refusal {
+            reason: BadText,
+            place: 3,
+            offset: 12,
+        };
+        assert_eq!(judged(answer(6, 3, 12)), Err(refused));
+    }
+
+    #[test]
+    fn only_bad_text_shows_its_byte() {
+        let shown = |reason, place, offset| {
+            let refusal = Refusal {
+                reason,
+                place,
+                offset,
+            };
+            refusal.to_string()
+        };
+        assert_eq!(shown(BadText, 3, 12), "refused 6 3, byte 12: bad text");
+        assert_eq!(shown(BadText, 0, 0), "refused 6 0, byte 0: bad text");
+        assert_eq!(shown(IdTwice, 5, 0), "refused 12 5: an ID twice");
     }
 }

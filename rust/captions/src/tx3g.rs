@@ -20,32 +20,42 @@ pub struct Tx3gRefusal {
     pub who: Who,
     pub reason: Reason,
     pub place: usize,
+    /// As in [`Refusal`]; the text of a sample starts after its byte count.
+    pub offset: usize,
 }
 
 impl Display for Tx3gRefusal {
     fn fmt(&self, f: &mut fmt::Formatter) -> fmt::Result {
-        let Tx3gRefusal { who, reason, place } = self;
-        let who = match who {
+        let who = match self.who {
             Who::Entry => "entry",
             Who::Sample => "sample",
         };
-        write!(f, "{who} refused {} {place}: {reason}", reason.number())
+        let refusal = Refusal {
+            reason: self.reason,
+            place: self.place,
+            offset: self.offset,
+        };
+        write!(f, "{who} {refusal}")
     }
 }
 
 impl Error for Tx3gRefusal {}
 
-fn both_judged(who: u32, number: u32, place: usize) -> Result<(), Tx3gRefusal> {
+fn both_judged(who: u32, answer: ffi::CaptionsRefusal) -> Result<(), Tx3gRefusal> {
     let who = if who == 1 { Who::Entry } else { Who::Sample };
-    let fault = |Refusal { reason, place }| Tx3gRefusal { who, reason, place };
-    judged(number, place).map_err(fault)
+    judged(answer).map_err(|refusal| Tx3gRefusal {
+        who,
+        reason: refusal.reason,
+        place: refusal.place,
+        offset: refusal.offset,
+    })
 }
 
 /// Judges a `tx3g` sample entry. Refused: 1 to 4, 7 to 9; the place is a byte of the entry.
 pub fn judge_entry(entry: &[u8]) -> Result<(), Refusal> {
     // SAFETY: pointer and length of a slice.
     let answer = unsafe { ffi::captions_judge_tx3g_entry(entry.as_ptr(), entry.len()) };
-    judged(answer.number, answer.place)
+    judged(answer)
 }
 
 /// Judges an entry, then a sample; gives the sample's character count.
@@ -55,7 +65,7 @@ pub fn judge_sample(entry: &[u8], sample: &[u8]) -> Result<usize, Tx3gRefusal> {
     let answer = unsafe {
         ffi::captions_judge_tx3g_sample(entry.as_ptr(), entry.len(), sample.as_ptr(), sample.len())
     };
-    both_judged(answer.who, answer.number, answer.place)?;
+    both_judged(answer.who, answer.refusal)?;
     Ok(answer.characters)
 }
 
@@ -84,7 +94,7 @@ pub fn style(entry: &[u8], sample: &[u8], k: usize) -> Result<Style, Tx3gRefusal
             k,
         )
     };
-    both_judged(style.who, style.number, style.place)?;
+    both_judged(style.who, style.refusal)?;
     // Each field is one or two bytes of the record.
     Ok(Style {
         start: style.start as u16,
@@ -112,7 +122,7 @@ pub fn text_box<'a>(entry: &'a [u8], sample: &'a [u8]) -> Result<TextBox<'a>, Tx
     let found = unsafe {
         ffi::captions_text_box(entry.as_ptr(), entry.len(), sample.as_ptr(), sample.len())
     };
-    both_judged(found.who, found.number, found.place)?;
+    both_judged(found.who, found.refusal)?;
     let (who, whole) = if found.insample {
         (Who::Sample, sample)
     } else {
@@ -210,5 +220,27 @@ fn modifier(m: &ffi::CaptionsModifier) -> Modifier {
         },
         b"tbox" => Modifier::TextBox(m.from..m.from + 8),
         _ => Modifier::Wrap(m.first as u8),
+    }
+}
+
+#[cfg(test)]
+mod tests {
+    use super::*;
+
+    #[test]
+    fn a_refusal_names_who_and_where() {
+        let shown = |who, reason, place, offset| {
+            let refusal = Tx3gRefusal {
+                who,
+                reason,
+                place,
+                offset,
+            };
+            refusal.to_string()
+        };
+        let bad_text = shown(Who::Sample, Reason::BadText, 0, 12);
+        assert_eq!(bad_text, "sample refused 6 0, byte 12: bad text");
+        let kind_twice = shown(Who::Entry, Reason::KindTwice, 46, 0);
+        assert_eq!(kind_twice, "entry refused 3 46: a kind twice");
     }
 }

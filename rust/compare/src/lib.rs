@@ -23,6 +23,7 @@ fn refusal(refusal: captions::Refusal) -> Refusal {
     Refusal {
         number: refusal.reason.number(),
         place: refusal.place,
+        offset: refusal.offset,
     }
 }
 
@@ -38,6 +39,7 @@ fn tx3g_refusal(refusal: captions::tx3g::Tx3gRefusal) -> Tx3gRefusal {
         who: who(refusal.who),
         number: refusal.reason.number(),
         place: refusal.place,
+        offset: refusal.offset,
     }
 }
 
@@ -57,28 +59,34 @@ impl Library for Proved {
         captions::milliseconds(scale, tick)
     }
 
-    fn is_utf8(&self, text: &[u8]) -> Offered<bool> {
-        Some(lend([text], |[text]| captions::is_utf8(text)))
+    fn judge_utf8(&self, text: &[u8]) -> Offered<Result<(), Refusal>> {
+        let judged = lend([text], |[text]| captions::judge_utf8(text));
+        Some(judged.map_err(refusal))
     }
 
-    fn is_identifier(&self, text: &[u8]) -> Offered<bool> {
-        Some(lend([text], |[text]| captions::is_identifier(text)))
+    fn judge_identifier(&self, text: &[u8]) -> Offered<Result<(), Refusal>> {
+        let judged = lend([text], |[text]| captions::judge_identifier(text));
+        Some(judged.map_err(refusal))
     }
 
-    fn is_payload(&self, text: &[u8]) -> Offered<bool> {
-        Some(lend([text], |[text]| captions::is_payload(text)))
+    fn judge_payload(&self, text: &[u8]) -> Offered<Result<(), Refusal>> {
+        let judged = lend([text], |[text]| captions::judge_payload(text));
+        Some(judged.map_err(refusal))
     }
 
-    fn is_configuration(&self, text: &[u8]) -> Offered<bool> {
-        Some(lend([text], |[text]| captions::is_configuration(text)))
+    fn judge_configuration(&self, text: &[u8]) -> Offered<Result<(), Refusal>> {
+        let judged = lend([text], |[text]| captions::judge_configuration(text));
+        Some(judged.map_err(refusal))
     }
 
-    fn is_label(&self, text: &[u8]) -> Offered<bool> {
-        Some(lend([text], |[text]| captions::is_label(text)))
+    fn judge_label(&self, text: &[u8]) -> Offered<Result<(), Refusal>> {
+        let judged = lend([text], |[text]| captions::judge_label(text));
+        Some(judged.map_err(refusal))
     }
 
-    fn characters(&self, text: &[u8]) -> Offered<Option<usize>> {
-        Some(lend([text], |[text]| captions::count_characters(text)))
+    fn characters(&self, text: &[u8]) -> Offered<Result<usize, Refusal>> {
+        let counted = lend([text], |[text]| captions::count_characters(text));
+        Some(counted.map_err(refusal))
     }
 
     /// At the end, where the model has a header of no bytes, the proved step has no box.
@@ -95,8 +103,7 @@ impl Library for Proved {
             }),
             Ok(None) => {
                 assert_eq!(at, bytes.len(), "no box before the end");
-                let (number, place) = (1, at);
-                Err(Refusal { number, place })
+                Err(Refusal::new(1, at))
             }
             Err(refusal) => Err(refusal),
         })

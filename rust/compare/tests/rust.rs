@@ -21,7 +21,7 @@ fn the_vectors_agree() {
     let report = run_vectors(&Proved, vectors).expect("the vectors can be read");
     print!("{report}");
     assert_eq!(report.faults(), 0, "\n{report}");
-    assert!(report.agreed() > 1000);
+    assert!(report.agreed() > 5000);
     for file in &report.files {
         let expected = SKIPPED_FILES.contains(&file.name.as_str());
         assert_eq!(file.skipped > 0, expected, "{}", file.name);
@@ -66,10 +66,10 @@ fn walk(sample: &[u8]) {
         // SAFETY: pointer and length of a slice.
         let cue = unsafe { captions_next_cue(sample.as_ptr(), sample.len(), from) };
         if !cue.found {
-            assert!(cue.number == 0 || captions::cues(sample).is_err());
+            assert!(cue.refusal.number == 0 || captions::cues(sample).is_err());
             return;
         }
-        assert!(cue.number == 0 && from < cue.next && cue.next <= sample.len());
+        assert!(cue.refusal.number == 0 && from < cue.next && cue.next <= sample.len());
         assert!(cue.identifierfrom <= cue.identifierend && cue.identifierend <= cue.next);
         assert!(cue.payloadfrom <= cue.payloadend && cue.payloadend <= cue.next);
         from = cue.next;
@@ -78,14 +78,18 @@ fn walk(sample: &[u8]) {
 
 #[test]
 fn no_bytes_are_answered() {
-    assert!(captions::is_utf8(&[]) && captions::is_payload(&[]));
-    assert_eq!(captions::count_characters(&[]), Some(0));
+    assert_eq!(captions::judge_utf8(&[]), Ok(()));
+    assert_eq!(captions::judge_identifier(&[]), Ok(()));
+    assert_eq!(captions::judge_payload(&[]), Ok(()));
+    assert_eq!(captions::judge_label(&[]), Ok(()));
+    assert_eq!(answer(captions::judge_configuration(&[])), (6, 0, 0));
+    assert_eq!(captions::count_characters(&[]), Ok(0));
     assert_eq!(captions::step(&[], 0), Ok(None));
     assert!(captions::cues(&[]).is_err());
     assert_eq!(captions::judge_track(&[], &[]), Ok(()));
     assert_eq!(captions::judge_list(1000, 1, &[], &[]), Ok(()));
     let refused = captions::judge_sample(&[]).expect_err("no cue");
-    assert_eq!((refused.reason.number(), refused.place), (4, 0));
+    assert_eq!(answer(Err(refused)), (4, 0, 0));
     assert_eq!(
         refused.to_string(),
         "refused 4 0: a box or every cue missing"
@@ -104,8 +108,38 @@ fn times_have_a_domain() {
     );
 }
 
-fn answer(judged: Result<(), captions::Refusal>) -> (u32, usize) {
-    judged.map_or_else(|r| (r.reason.number(), r.place), |()| (0, 0))
+/// Number, place and offset.
+fn answer(judged: Result<(), captions::Refusal>) -> (u32, usize, usize) {
+    let refused = |r: captions::Refusal| (r.reason.number(), r.place, r.offset);
+    judged.map_or_else(refused, |()| (0, 0, 0))
+}
+
+/// A fault at every offset of a text as long as a payload may be, and past that.
+#[test]
+fn a_text_is_bad_at_every_offset() {
+    let mut text = vec![b'a'; 4100];
+    for at in 0..text.len() {
+        text[at] = 0xFF;
+        let bad = (6, 0, at);
+        assert_eq!(answer(captions::judge_utf8(&text)), bad);
+        assert_eq!(answer(captions::judge_identifier(&text)), bad);
+        assert_eq!(answer(captions::judge_payload(&text)), bad);
+        assert_eq!(answer(captions::judge_label(&text)), bad);
+        assert_eq!(answer(captions::count_characters(&text).map(drop)), bad);
+        text[at] = b'a';
+    }
+    text.truncate(4095);
+    text.push(b'\n');
+    assert_eq!(answer(captions::judge_utf8(&text)), (0, 0, 0));
+    assert_eq!(answer(captions::judge_identifier(&text)), (6, 0, 4095));
+    assert_eq!(answer(captions::judge_payload(&text)), (6, 0, 4096));
+    assert_eq!(answer(captions::judge_label(&text)), (6, 0, 4096));
+}
+
+#[test]
+fn a_refusal_shows_where_the_text_is_bad() {
+    let refused = captions::judge_payload(b"two\n\nlines").expect_err("an empty line");
+    assert_eq!(refused.to_string(), "refused 6 0, byte 4: bad text");
 }
 
 /// As many samples and records as are allowed, and one more; an unpacked track, and the check of it, at that size.
@@ -117,12 +151,15 @@ fn the_limits_are_exact() {
     };
     for (count, number) in [(65_536, 0), (65_537, 9)] {
         let (table, samples) = track(count);
-        assert_eq!(answer(captions::judge_track(&table, &samples)), (number, 0));
+        assert_eq!(
+            answer(captions::judge_track(&table, &samples)),
+            (number, 0, 0)
+        );
         let unpacked = captions::unpack(1000, &table, &samples, &mut [], &mut []);
         let unpacked = unpacked.map(|u| assert_eq!((u.record_bytes, u.t), (0, 65_536)));
-        assert_eq!(answer(unpacked), (number, 0));
+        assert_eq!(answer(unpacked), (number, 0, 0));
         let checked = captions::check(1000, 65_536, &[], &[], &table, &samples);
-        assert_eq!(answer(checked), (number, 0));
+        assert_eq!(answer(checked), (number, 0, 0));
     }
     let record = |id: u32| {
         let times = [
@@ -135,7 +172,7 @@ fn the_limits_are_exact() {
     for (count, number) in [(1024, 0), (1025, 9)] {
         let records: Vec<u8> = (0..count).flat_map(record).collect();
         let judged = captions::judge_list(1000, 2000, &records, &[]);
-        assert_eq!(answer(judged), (number, 0));
+        assert_eq!(answer(judged), (number, 0, 0));
     }
     let identifier = |length: u16| {
         let mut record = record(0);
@@ -144,6 +181,6 @@ fn the_limits_are_exact() {
     };
     for (length, number) in [(255, 0), (256, 9)] {
         let judged = captions::judge_list(1000, 2000, &identifier(length), &[b'a'; 256]);
-        assert_eq!(answer(judged), (number, 0));
+        assert_eq!(answer(judged), (number, 0, 0));
     }
 }

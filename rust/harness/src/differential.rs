@@ -1,22 +1,25 @@
 //! Two libraries on the same random inputs.
 
-use std::collections::BTreeMap;
+use std::collections::{BTreeMap, BTreeSet};
 use std::fmt::{self, Debug, Display};
 
-use captions_model::tx3g::{Modifier, Tx3gRefusal};
+use captions_model::number::BAD_TEXT;
+use captions_model::tx3g::Modifier;
 use captions_model::wvtt::Cue;
 use captions_model::{Refusal, Span};
 
 use crate::generate as make;
 use crate::library::Library;
 use crate::random::Random;
-use crate::rows::hex;
+use crate::rows::{hex, Refused};
 
 /// How often each operation was compared, and with which number as the answer.
 #[derive(Clone, Debug, Default)]
 pub struct Counts {
     /// By operation and number, 0 for success.
     pub compared: BTreeMap<(&'static str, u32), u64>,
+    /// By operation, the offsets of bad texts.
+    pub offsets: BTreeMap<&'static str, BTreeSet<usize>>,
     /// Operations that one of the two does not offer.
     pub skipped: BTreeMap<&'static str, u64>,
 }
@@ -28,6 +31,13 @@ impl Counts {
 
     pub fn total_skipped(&self) -> u64 {
         self.skipped.values().sum()
+    }
+
+    fn add(&mut self, operation: &'static str, (number, offset): Counted) {
+        *self.compared.entry((operation, number)).or_default() += 1;
+        if let (BAD_TEXT, Some(offset)) = (number, offset) {
+            self.offsets.entry(operation).or_default().insert(offset);
+        }
     }
 }
 
@@ -43,6 +53,9 @@ impl Display for Counts {
             write!(f, " {number} x {times},")?;
         }
         writeln!(f)?;
+        for (operation, offsets) in &self.offsets {
+            writeln!(f, "{operation}: texts bad at {} offsets", offsets.len())?;
+        }
         for (operation, times) in &self.skipped {
             writeln!(f, "{operation}: skipped {times}")?;
         }
@@ -143,41 +156,30 @@ struct Pair<'a> {
     counts: &'a mut Counts,
 }
 
-/// The number an answer is counted under.
-trait Numbered {
-    fn number(&self) -> u32;
+/// What an answer is counted under: its number, 0 for success, and the offset if it gives one.
+type Counted = (u32, Option<usize>);
+
+fn counted<T, E: Copy + Into<Refused>>(answer: &Result<T, E>) -> Counted {
+    let refused = |&refusal: &E| {
+        let refused: Refused = refusal.into();
+        (refused.number, refused.offset)
+    };
+    answer.as_ref().map_or_else(refused, |_| (0, None))
 }
 
-impl<T, E: HasNumber> Numbered for Result<T, E> {
-    fn number(&self) -> u32 {
-        self.as_ref().err().map_or(0, HasNumber::number)
-    }
-}
-
-trait HasNumber {
-    fn number(&self) -> u32;
-}
-
-impl HasNumber for Refusal {
-    fn number(&self) -> u32 {
-        self.number
-    }
-}
-
-impl HasNumber for Tx3gRefusal {
-    fn number(&self) -> u32 {
-        self.number
-    }
+/// For answers that are never refusals.
+fn uncounted<T>(_: &T) -> Counted {
+    (0, None)
 }
 
 impl Pair<'_> {
-    /// Compares what both answer, counted under the number `count` gives.
+    /// Compares what both answer, counted under what `count` gives.
     fn ask<T: PartialEq + Debug>(
         &mut self,
         operation: &'static str,
         input: impl Fn() -> String,
         ask: impl Fn(&dyn Library) -> Option<T>,
-        count: impl Fn(&T) -> u32,
+        count: impl Fn(&T) -> Counted,
     ) -> Compared {
         self.common(operation, input, ask, count).map(drop)
     }
@@ -189,7 +191,7 @@ impl Pair<'_> {
         input: impl Fn() -> String,
         ask: impl Fn(&dyn Library) -> Option<Written<T>>,
     ) -> Compared {
-        match self.common(operation, &input, ask, |w| w.answer.number())? {
+        match self.common(operation, &input, ask, |w| counted(&w.answer))? {
             Some(written) if !written.kept => {
                 let (a, b) = (format!("{written:?}"), "the same".to_string());
                 Err(self.difference(operation, input(), a, b))
@@ -204,7 +206,7 @@ impl Pair<'_> {
         operation: &'static str,
         input: impl Fn() -> String,
         ask: impl Fn(&dyn Library) -> Option<T>,
-        count: impl Fn(&T) -> u32,
+        count: impl Fn(&T) -> Counted,
     ) -> Result<Option<T>, Difference> {
         let (Some(a), Some(b)) = (ask(self.a), ask(self.b)) else {
             *self.counts.skipped.entry(operation).or_default() += 1;
@@ -214,19 +216,18 @@ impl Pair<'_> {
             let (a, b) = (format!("{a:?}"), format!("{b:?}"));
             return Err(self.difference(operation, input(), a, b));
         }
-        let counted = self.counts.compared.entry((operation, count(&a)));
-        *counted.or_default() += 1;
+        self.counts.add(operation, count(&a));
         Ok(Some(a))
     }
 
     /// As [`Pair::ask`], for answers that may be refusals.
-    fn judge<T: PartialEq + Debug, E: PartialEq + Debug + HasNumber>(
+    fn judge<T: PartialEq + Debug, E: PartialEq + Debug + Copy + Into<Refused>>(
         &mut self,
         operation: &'static str,
         input: &[&[u8]],
         ask: impl Fn(&dyn Library) -> Option<Result<T, E>>,
     ) -> Compared {
-        self.ask(operation, || show(&[], input), ask, Numbered::number)
+        self.ask(operation, || show(&[], input), ask, counted)
     }
 
     fn difference(
@@ -259,8 +260,8 @@ fn compare_fields(pair: &mut Pair, random: &mut Random) -> Compared {
     let bytes = random.bytes(len);
     let input = || show(&[], &[&bytes]);
     let (at16, at32) = (random.below(len - 1), random.below(len - 3));
-    pair.ask("be16", input, |l| l.be16(&bytes, at16), |_| 0)?;
-    pair.ask("be32", input, |l| l.be32(&bytes, at32), |_| 0)
+    pair.ask("be16", input, |l| l.be16(&bytes, at16), uncounted)?;
+    pair.ask("be32", input, |l| l.be32(&bytes, at32), uncounted)
 }
 
 fn compare_times(pair: &mut Pair, random: &mut Random) -> Compared {
@@ -274,47 +275,38 @@ fn compare_times(pair: &mut Pair, random: &mut Random) -> Compared {
     };
     let tick = random.next() >> random.within(16, 63);
     let input = || show(&[scale.into(), ms.into(), tick], &[]);
-    pair.ask("tick", input, |l| l.tick(scale, ms), |_| 0)?;
+    pair.ask("tick", input, |l| l.tick(scale, ms), uncounted)?;
     pair.ask(
         "milliseconds",
         input,
         |l| l.milliseconds(scale, tick),
-        |_| 0,
+        uncounted,
     )
 }
 
 fn compare_texts(pair: &mut Pair, random: &mut Random) -> Compared {
-    let text = make::any_text(random);
-    let input = || show(&[], &[&text]);
-    let number = |&good: &bool| if good { 0 } else { 6 };
-    pair.ask("is_utf8", input, |l| l.is_utf8(&text), number)?;
-    pair.ask("is_identifier", input, |l| l.is_identifier(&text), number)?;
-    pair.ask("is_payload", input, |l| l.is_payload(&text), number)?;
-    pair.ask(
-        "is_configuration",
-        input,
-        |l| l.is_configuration(&text),
-        number,
-    )?;
-    pair.ask("is_label", input, |l| l.is_label(&text), number)
+    for text in [make::any_text(random), make::configuration(random)] {
+        let input: &[&[u8]] = &[&text];
+        pair.judge("judge_utf8", input, |l| l.judge_utf8(&text))?;
+        pair.judge("judge_identifier", input, |l| l.judge_identifier(&text))?;
+        pair.judge("judge_payload", input, |l| l.judge_payload(&text))?;
+        pair.judge("judge_configuration", input, |l| {
+            l.judge_configuration(&text)
+        })?;
+        pair.judge("judge_label", input, |l| l.judge_label(&text))?;
+    }
+    Ok(())
 }
 
 fn compare_characters(pair: &mut Pair, random: &mut Random) -> Compared {
     let text = make::tx3g_text(random);
-    let input = || show(&[], &[&text]);
-    let number = |count: &Option<usize>| if count.is_some() { 0 } else { 6 };
-    pair.ask("characters", input, |l| l.characters(&text), number)
+    pair.judge("characters", &[&text], |l| l.characters(&text))
 }
 
 fn compare_step(pair: &mut Pair, random: &mut Random) -> Compared {
     let (bytes, at) = make::step_input(random);
     let input = || show(&[at as u64], &[&bytes]);
-    pair.ask(
-        "box_step",
-        input,
-        |l| l.box_step(&bytes, at),
-        Numbered::number,
-    )
+    pair.ask("box_step", input, |l| l.box_step(&bytes, at), counted)
 }
 
 fn compare_sample(pair: &mut Pair, random: &mut Random) -> Compared {
@@ -387,7 +379,7 @@ fn compare_list(pair: &mut Pair, random: &mut Random) -> Compared {
     } = make::list(random);
     let input = || show(&[scale.into(), t.into()], &[&records, &pool]);
     let ask = |l: &dyn Library| l.judge_list(scale, t, &records, &pool);
-    pair.ask("judge_list", input, ask, Numbered::number)
+    pair.ask("judge_list", input, ask, counted)
 }
 
 /// Two lent outputs with a pattern in them.
@@ -511,7 +503,7 @@ fn compare_check(pair: &mut Pair, random: &mut Random) -> Compared {
         )
     };
     let ask = |l: &dyn Library| l.check(scale, t, &records, &pool, &table, &samples);
-    pair.ask("check", input, ask, Numbered::number)
+    pair.ask("check", input, ask, counted)
 }
 
 fn compare_tx3g_entry(pair: &mut Pair, random: &mut Random) -> Compared {
@@ -531,12 +523,7 @@ fn compare_tx3g_sample(pair: &mut Pair, random: &mut Random) -> Compared {
     let judged = captions_model::tx3g::judge_sample(&entry, &sample);
     for k in characters_to_ask(random, judged.unwrap_or(0)) {
         let input = || show(&[k as u64], &both);
-        pair.ask(
-            "style",
-            input,
-            |l| l.style(&entry, &sample, k),
-            Numbered::number,
-        )?;
+        pair.ask("style", input, |l| l.style(&entry, &sample, k), counted)?;
     }
     pair.judge("modifiers", &both, |l| {
         let plain =
@@ -562,7 +549,7 @@ fn compare_program(pair: &mut Pair, random: &mut Random) -> Compared {
         format!("{} {} {}", hex(&input), file(records), file(pool))
     };
     let ask = |l: &dyn Library| l.program(&input, records, pool);
-    pair.ask("program", shown, ask, |out| refused_number(out))
+    pair.ask("program", shown, ask, |out| (refused_number(out), None))
 }
 
 /// The number in a line `refused 10 0`.

@@ -13,10 +13,10 @@ pub use boxes::{box_of, step_input};
 pub use cue_list::{list, CueList};
 pub use damage::{damage_boxes, damage_bytes};
 pub use program::{program_input, ProgramInput};
-pub use text::{any_text, identifier, payload, tx3g_text};
+pub use text::{any_text, bad_text, identifier, payload, tx3g_text};
 pub use track::{check_input, packed, unpack_input, Track};
 pub use tx3g::{sample_for, tx3g_entry, tx3g_input};
-pub use wvtt::{wvtt_entry, wvtt_sample};
+pub use wvtt::{configuration, wvtt_entry, wvtt_sample};
 
 use crate::random::Random;
 

@@ -41,33 +41,33 @@ pub trait Library {
         None
     }
 
-    /// Whether the text is valid UTF-8.
-    fn is_utf8(&self, text: &[u8]) -> Offered<bool> {
+    /// Judges a text as UTF-8. A bad text has place 0, here and below.
+    fn judge_utf8(&self, text: &[u8]) -> Offered<Result<(), Refusal>> {
         None
     }
 
-    /// Whether the text keeps the rule of identifiers and settings, length aside.
-    fn is_identifier(&self, text: &[u8]) -> Offered<bool> {
+    /// Judges a text by the rule of identifiers and settings, length aside.
+    fn judge_identifier(&self, text: &[u8]) -> Offered<Result<(), Refusal>> {
         None
     }
 
-    /// Whether the text keeps the rule of payloads, length aside.
-    fn is_payload(&self, text: &[u8]) -> Offered<bool> {
+    /// Judges a text by the rule of payloads, length aside.
+    fn judge_payload(&self, text: &[u8]) -> Offered<Result<(), Refusal>> {
         None
     }
 
-    /// Whether the text may be a `vttC` body.
-    fn is_configuration(&self, text: &[u8]) -> Offered<bool> {
+    /// Judges a text as a `vttC` body.
+    fn judge_configuration(&self, text: &[u8]) -> Offered<Result<(), Refusal>> {
         None
     }
 
-    /// Whether the text may be a `vlab` body.
-    fn is_label(&self, text: &[u8]) -> Offered<bool> {
+    /// Judges a text as a `vlab` body.
+    fn judge_label(&self, text: &[u8]) -> Offered<Result<(), Refusal>> {
         None
     }
 
-    /// The character count of a `tx3g` text, none inside for a bad text.
-    fn characters(&self, text: &[u8]) -> Offered<Option<usize>> {
+    /// The character count of a `tx3g` text.
+    fn characters(&self, text: &[u8]) -> Offered<Result<usize, Refusal>> {
         None
     }
 

@@ -12,6 +12,15 @@ use crate::library::{Library, Offered, TextBoxAt};
 /// The plain model.
 pub struct Model;
 
+/// The refusal of a text by itself.
+fn bad_text(offset: usize) -> Refusal {
+    Refusal::bad_text(0, offset)
+}
+
+fn judged(fault: Option<usize>) -> Result<(), Refusal> {
+    fault.map_or(Ok(()), |offset| Err(bad_text(offset)))
+}
+
 impl Library for Model {
     fn be16(&self, bytes: &[u8], at: usize) -> Offered<u16> {
         Some(boxes::be16(bytes, at))
@@ -29,28 +38,28 @@ impl Library for Model {
         Some(time::milliseconds(scale, tick))
     }
 
-    fn is_utf8(&self, text: &[u8]) -> Offered<bool> {
-        Some(text::is_utf8(text))
+    fn judge_utf8(&self, text: &[u8]) -> Offered<Result<(), Refusal>> {
+        Some(judged(text::utf8_fault(text)))
     }
 
-    fn is_identifier(&self, text: &[u8]) -> Offered<bool> {
-        Some(text::is_identifier(text))
+    fn judge_identifier(&self, text: &[u8]) -> Offered<Result<(), Refusal>> {
+        Some(judged(text::identifier_fault(text)))
     }
 
-    fn is_payload(&self, text: &[u8]) -> Offered<bool> {
-        Some(text::is_payload(text))
+    fn judge_payload(&self, text: &[u8]) -> Offered<Result<(), Refusal>> {
+        Some(judged(text::payload_fault(text)))
     }
 
-    fn is_configuration(&self, text: &[u8]) -> Offered<bool> {
-        Some(text::is_configuration(text))
+    fn judge_configuration(&self, text: &[u8]) -> Offered<Result<(), Refusal>> {
+        Some(judged(text::configuration_fault(text)))
     }
 
-    fn is_label(&self, text: &[u8]) -> Offered<bool> {
-        Some(text::is_label(text))
+    fn judge_label(&self, text: &[u8]) -> Offered<Result<(), Refusal>> {
+        Some(judged(text::label_fault(text)))
     }
 
-    fn characters(&self, text: &[u8]) -> Offered<Option<usize>> {
-        Some(text::characters(text))
+    fn characters(&self, text: &[u8]) -> Offered<Result<usize, Refusal>> {
+        Some(text::characters(text).map_err(bad_text))
     }
 
     fn box_step(&self, bytes: &[u8], at: usize) -> Offered<Result<BoxAt, Refusal>> {

@@ -1,20 +1,39 @@
 //! Rows of input and answer: fields separated by a tab, `=` between inputs and answers.
 
+use captions_model::number::BAD_TEXT;
 use captions_model::tx3g::{Tx3gRefusal, Who};
 use captions_model::Refusal;
+
+/// What the rows of a file have beside the inputs of a question and its answer.
+#[derive(Clone, Copy)]
+pub struct Form {
+    /// Leading inputs that no answer compared today depends on.
+    pub ignored: usize,
+    /// Flags after them, 1 where a rule holds that is not in force yet.
+    pub flags: usize,
+    /// Whether an offset follows each place.
+    pub offsets: bool,
+}
 
 /// A row's fields before and after `=`.
 pub struct Row<'a> {
     pub inputs: Vec<&'a str>,
     pub answers: Vec<&'a str>,
+    /// Whether it holds only with a rule that is not in force yet.
+    pub later: bool,
+    offsets: bool,
 }
 
 impl<'a> Row<'a> {
-    pub fn parse(line: &'a str) -> Option<Self> {
+    pub fn parse(line: &'a str, form: Form) -> Option<Self> {
         let (inputs, answers) = line.split_once("\t=\t")?;
+        let mut inputs = inputs.split('\t').skip(form.ignored);
+        let flags: Vec<&str> = inputs.by_ref().take(form.flags).collect();
         Some(Row {
-            inputs: inputs.split('\t').collect(),
+            inputs: inputs.collect(),
             answers: answers.split('\t').collect(),
+            later: flags.contains(&"1"),
+            offsets: form.offsets,
         })
     }
 
@@ -36,34 +55,80 @@ impl<'a> Row<'a> {
         number(self.inputs[input]).try_into().unwrap_or(u32::MAX)
     }
 
-    /// The refusal that the answers from `at` on give, if any.
-    pub fn refusal(&self, at: usize) -> Result<(), Refusal> {
-        refusal(&self.answers[at..])
+    pub fn judged(&self) -> (Judged, &[&'a str]) {
+        judged(&self.answers, self.offsets)
     }
 
-    pub fn tx3g_refusal(&self) -> Result<(), Tx3gRefusal> {
-        tx3g_refusal(&self.answers)
-    }
-}
-
-/// Number and place as a refusal, if any.
-pub fn refusal(answers: &[&str]) -> Result<(), Refusal> {
-    match number(answers[0]) as u32 {
-        0 => Ok(()),
-        given => Err(Refusal {
-            number: given,
-            place: number(answers[1]) as usize,
-        }),
+    pub fn tx3g_judged(&self) -> (Judged, &[&'a str]) {
+        tx3g_judged(&self.answers, self.offsets)
     }
 }
 
-/// Who, number and place as a refusal, if any.
-pub fn tx3g_refusal(answers: &[&str]) -> Result<(), Tx3gRefusal> {
-    refusal(&answers[1..]).map_err(|fault| Tx3gRefusal {
-        who: who(answers[0]),
-        number: fault.number,
-        place: fault.place,
-    })
+/// A refusal as far as a row gives it.
+#[derive(Clone, Copy, Debug, PartialEq, Eq)]
+pub struct Refused {
+    pub who: Option<Who>,
+    pub number: u32,
+    pub place: usize,
+    /// None where the row does not give it.
+    pub offset: Option<usize>,
+}
+
+pub type Judged = Result<(), Refused>;
+
+impl From<Refusal> for Refused {
+    fn from(refusal: Refusal) -> Self {
+        Refused {
+            who: None,
+            number: refusal.number,
+            place: refusal.place,
+            offset: Some(refusal.offset),
+        }
+    }
+}
+
+impl From<Tx3gRefusal> for Refused {
+    fn from(refusal: Tx3gRefusal) -> Self {
+        Refused {
+            who: Some(refusal.who),
+            number: refusal.number,
+            place: refusal.place,
+            offset: Some(refusal.offset),
+        }
+    }
+}
+
+/// The refusal, if any, that answers begin with: number, place and, if it is there, offset; and
+/// the answers after it. Without its column the offset is known to be 0 but for bad text.
+pub fn judged<'a, 'b>(answers: &'a [&'b str], offsets: bool) -> (Judged, &'a [&'b str]) {
+    let given = number(answers[0]) as u32;
+    let offset = match given {
+        _ if offsets => Some(number(answers[2]) as usize),
+        BAD_TEXT => None,
+        _ => Some(0),
+    };
+    let refused = Refused {
+        who: None,
+        number: given,
+        place: number(answers[1]) as usize,
+        offset,
+    };
+    let judged = if refused.number == 0 {
+        Ok(())
+    } else {
+        Err(refused)
+    };
+    (judged, &answers[2 + usize::from(offsets)..])
+}
+
+/// As [`judged`], after who is at fault.
+pub fn tx3g_judged<'a, 'b>(answers: &'a [&'b str], offsets: bool) -> (Judged, &'a [&'b str]) {
+    let (judged, more) = judged(&answers[1..], offsets);
+    let judged = judged.map_err(|refused| Refused {
+        who: Some(who(answers[0])),
+        ..refused
+    });
+    (judged, more)
 }
 
 pub fn who(field: &str) -> Who {

@@ -5,18 +5,20 @@ use std::path::Path;
 use std::{fs, io};
 
 use captions_model::track::samples;
-use captions_model::tx3g::{Tx3gRefusal, Who};
+use captions_model::tx3g::Who;
 use captions_model::wvtt::Cue;
 use captions_model::Refusal;
 
 use crate::library::Library;
-use crate::rows::{bytes, hex, number, refusal, tx3g_refusal, who, Row};
+use crate::rows::{bytes, hex, judged, number, tx3g_judged, who, Form, Refused, Row};
 
 /// What became of a row.
 enum Verdict {
     Agrees,
     /// The library does not offer the operation.
     Skipped,
+    /// The row holds only with a rule that is not in force yet.
+    Later,
     Differs(String),
 }
 
@@ -28,6 +30,8 @@ pub struct FileReport {
     pub name: String,
     pub agreed: usize,
     pub skipped: usize,
+    /// Rows that hold only with a rule that is not in force yet.
+    pub later: usize,
     /// Line and difference of each row that disagrees.
     pub faults: Vec<String>,
 }
@@ -55,11 +59,17 @@ impl Report {
 impl Display for Report {
     fn fmt(&self, f: &mut fmt::Formatter) -> fmt::Result {
         for file in &self.files {
-            let (agreed, skipped, faults) = (file.agreed, file.skipped, file.faults.len());
+            let FileReport {
+                name,
+                agreed,
+                skipped,
+                later,
+                faults,
+            } = file;
+            let differ = faults.len();
             writeln!(
                 f,
-                "{}: {agreed} agree, {skipped} skipped, {faults} differ",
-                file.name
+                "{name}: {agreed} agree, {skipped} skipped, {later} for later, {differ} differ"
             )?;
             for fault in &file.faults {
                 writeln!(f, "  {fault}")?;
@@ -75,6 +85,7 @@ impl FileReport {
             name: name.to_string(),
             agreed: 0,
             skipped: 0,
+            later: 0,
             faults: Vec::new(),
         }
     }
@@ -83,6 +94,7 @@ impl FileReport {
         match verdict {
             Verdict::Agrees => self.agreed += 1,
             Verdict::Skipped => self.skipped += 1,
+            Verdict::Later => self.later += 1,
             Verdict::Differs(how) => self.faults.push(format!("line {line}: {how}")),
         }
     }
@@ -90,38 +102,89 @@ impl FileReport {
 
 type Runner = fn(&dyn Library, &Row) -> Verdict;
 
-const RUNNERS: [(&str, Runner); 13] = [
-    ("text.tsv", run_text),
-    ("sample.tsv", run_sample),
-    ("wvtt_entry.tsv", run_wvtt_entry),
-    ("list.tsv", run_list),
-    ("pack.tsv", run_pack),
-    ("track.tsv", run_track),
-    ("unpack.tsv", run_unpack),
-    ("check.tsv", run_check),
-    ("tx3g_entry.tsv", run_tx3g_entry),
-    ("tx3g_sample.tsv", run_tx3g_sample),
-    ("style.tsv", run_style),
-    ("tbox.tsv", run_text_box),
-    ("program.tsv", run_program),
+/// Rows with number and place.
+const PLACES: Form = Form {
+    ignored: 0,
+    flags: 0,
+    offsets: false,
+};
+/// Rows with number, place and offset.
+const OFFSETS: Form = Form {
+    offsets: true,
+    ..PLACES
+};
+/// Rows with the flag `notes` first: 1 where records, samples and tracks hold notes. Such a row
+/// holds when they do, and is left for later.
+const NOTES: Form = Form {
+    flags: 1,
+    ..OFFSETS
+};
+/// Rows with `ctim` before `notes`: 1 where packing writes `ctim` boxes and the check judges them;
+/// for later, too.
+const CTIM_NOTES: Form = Form {
+    flags: 2,
+    ..OFFSETS
+};
+/// The same, of questions whose answers are the same for either `ctim`.
+const ANY_CTIM_NOTES: Form = Form {
+    ignored: 1,
+    ..NOTES
+};
+/// Rows with a flag for retired blinking first, which changes only a column that is not compared.
+const BLINKING: Form = Form {
+    ignored: 1,
+    ..OFFSETS
+};
+
+const RUNNERS: [(&str, Form, Runner); 23] = [
+    ("text.tsv", PLACES, run_text),
+    ("sample.tsv", PLACES, run_sample),
+    ("wvtt_entry.tsv", PLACES, run_wvtt_entry),
+    ("list.tsv", PLACES, run_list),
+    ("pack.tsv", PLACES, run_pack),
+    ("track.tsv", PLACES, run_track),
+    ("unpack.tsv", PLACES, run_unpack),
+    ("check.tsv", PLACES, run_check),
+    ("tx3g_entry.tsv", PLACES, run_tx3g_entry),
+    ("tx3g_sample.tsv", PLACES, run_tx3g_sample),
+    ("style.tsv", PLACES, run_style),
+    ("tbox.tsv", PLACES, run_text_box),
+    ("program.tsv", PLACES, run_program),
+    ("02/text.tsv", OFFSETS, run_text_offsets),
+    ("02/sample.tsv", NOTES, run_sample),
+    ("02/wvtt_entry.tsv", OFFSETS, run_wvtt_entry),
+    ("02/list.tsv", ANY_CTIM_NOTES, run_list),
+    ("02/pack.tsv", CTIM_NOTES, run_pack),
+    ("02/track.tsv", ANY_CTIM_NOTES, run_track),
+    ("02/unpack.tsv", ANY_CTIM_NOTES, run_unpack),
+    ("02/check.tsv", CTIM_NOTES, run_check),
+    ("02/tx3g_entry.tsv", OFFSETS, run_tx3g_entry),
+    ("02/tx3g_sample.tsv", BLINKING, run_tx3g_sample),
 ];
 
 /// Runs all rows and foreign tracks below `dir`.
 pub fn run_vectors(library: &dyn Library, dir: &Path) -> io::Result<Report> {
     let mut files = Vec::new();
-    for (name, runner) in RUNNERS {
-        files.push(run_file(library, dir, name, runner)?);
+    for (name, form, runner) in RUNNERS {
+        files.push(run_file(library, dir, name, form, runner)?);
     }
     files.push(run_foreign(library, &dir.join("foreign"))?);
     files.push(run_foreign_programs(library, &dir.join("foreign/wvtt"))?);
     Ok(Report { files })
 }
 
-fn run_file(library: &dyn Library, dir: &Path, name: &str, run: Runner) -> io::Result<FileReport> {
+fn run_file(
+    library: &dyn Library,
+    dir: &Path,
+    name: &str,
+    form: Form,
+    run: Runner,
+) -> io::Result<FileReport> {
     let mut report = FileReport::new(name);
     let rows = fs::read_to_string(dir.join(name))?;
     for (index, line) in rows.lines().enumerate() {
-        let verdict = match Row::parse(line) {
+        let verdict = match Row::parse(line, form) {
+            Some(row) if row.later => Verdict::Later,
             Some(row) => run(library, &row),
             None => Verdict::Differs("not a row".to_string()),
         };
@@ -139,6 +202,20 @@ fn compare<T: PartialEq + Debug>(got: Option<T>, expected: T) -> Verdict {
     }
 }
 
+/// As [`compare`], for answers that may be refusals; an offset only where it is expected.
+fn compare_judged<T: PartialEq + Debug, E: Into<Refused>>(
+    got: Option<Result<T, E>>,
+    expected: Result<T, Refused>,
+) -> Verdict {
+    let no_offset = matches!(expected, Err(Refused { offset: None, .. }));
+    let seen = |refusal: E| {
+        let refused = refusal.into();
+        let offset = refused.offset.filter(|_| !no_offset);
+        Refused { offset, ..refused }
+    };
+    compare(got.map(|answer| answer.map_err(seen)), expected)
+}
+
 /// Both verdicts as one; a row is skipped only where both are.
 fn both(first: Verdict, second: Verdict) -> Verdict {
     match (first, second) {
@@ -150,20 +227,46 @@ fn both(first: Verdict, second: Verdict) -> Verdict {
 
 fn run_text(library: &dyn Library, row: &Row) -> Verdict {
     let text = row.bytes(0);
+    let good = |judged: Option<Result<(), Refusal>>| judged.map(|answer| answer.is_ok());
     let expected = |at: usize| row.answers[at] == "1";
-    let utf8 = compare(library.is_utf8(&text), expected(0));
-    let identifier = compare(library.is_identifier(&text), expected(1));
-    let payload = compare(library.is_payload(&text), expected(2));
+    let utf8 = compare(good(library.judge_utf8(&text)), expected(0));
+    let identifier = compare(good(library.judge_identifier(&text)), expected(1));
+    let payload = compare(good(library.judge_payload(&text)), expected(2));
     both(both(utf8, identifier), payload)
+}
+
+/// The offset or `-` for a good text by each rule. A note has the payload's.
+fn run_text_offsets(library: &dyn Library, row: &Row) -> Verdict {
+    let text = row.bytes(0);
+    let characters = library.characters(&text);
+    let judged = [
+        library.judge_utf8(&text),
+        library.judge_identifier(&text),
+        library.judge_payload(&text),
+        library.judge_configuration(&text),
+        library.judge_label(&text),
+        library.judge_payload(&text),
+        characters.map(|count| count.map(drop)),
+    ];
+    assert_eq!(row.answers.len(), judged.len(), "one answer for each rule");
+    let verdicts = judged.into_iter().zip(&row.answers).map(|(got, &field)| {
+        let expected = match field {
+            "-" => Ok(()),
+            offset => Err(Refusal::bad_text(0, number(offset) as usize)),
+        };
+        compare(got, expected)
+    });
+    verdicts.fold(Skipped, both)
 }
 
 fn run_sample(library: &dyn Library, row: &Row) -> Verdict {
     let sample = row.bytes(0);
-    let judged = compare(library.judge_sample(&sample), row.refusal(0));
-    let expected = row.refusal(0).map(|()| row.answers[2].to_string());
+    let (expected, more) = row.judged();
+    let judged = compare_judged(library.judge_sample(&sample), expected);
     let field = |cues: Vec<Cue>| cue_field(&sample, &cues);
     let cues = library.cues(&sample).map(|cues| cues.map(field));
-    both(judged, compare(cues, expected))
+    let expected = expected.map(|()| more[0].to_string());
+    both(judged, compare_judged(cues, expected))
 }
 
 /// Cues as `ID:identifier:settings:payload`, joined by `,`.
@@ -181,13 +284,14 @@ fn cue_field(sample: &[u8], cues: &[Cue]) -> String {
 }
 
 fn run_wvtt_entry(library: &dyn Library, row: &Row) -> Verdict {
-    compare(library.judge_wvtt_entry(&row.bytes(0)), row.refusal(0))
+    let got = library.judge_wvtt_entry(&row.bytes(0));
+    compare_judged(got, row.judged().0)
 }
 
 fn run_list(library: &dyn Library, row: &Row) -> Verdict {
     let (records, pool) = (row.bytes(2), row.bytes(3));
     let got = library.judge_list(row.time(0), row.time(1), &records, &pool);
-    compare(got, row.refusal(0))
+    compare_judged(got, row.judged().0)
 }
 
 const UNTOUCHED: u8 = 0xA5;
@@ -195,6 +299,24 @@ const UNTOUCHED: u8 = 0xA5;
 /// Whether a lent output begins with the result and is untouched after it.
 fn holds(out: &[u8], result: &[u8]) -> bool {
     out.starts_with(result) && out[result.len()..].iter().all(|&b| b == UNTOUCHED)
+}
+
+/// Compares a count and two written outputs with a row's.
+fn compare_written(
+    got: Option<Result<(u64, usize, usize), Refusal>>,
+    outputs: [&[u8]; 2],
+    row: &Row,
+) -> Verdict {
+    let (expected, more) = row.judged();
+    let count = number(more[0]);
+    let wanted = match expected {
+        Ok(()) => [bytes(more[1]), bytes(more[2])],
+        Err(_) => Default::default(),
+    };
+    let expected = expected.map(|()| (count, wanted[0].len(), wanted[1].len()));
+    let written = holds(outputs[0], &wanted[0]) && holds(outputs[1], &wanted[1]);
+    let written = compare(got.map(|_| written), true);
+    both(compare_judged(got, expected), written)
 }
 
 fn run_pack(library: &dyn Library, row: &Row) -> Verdict {
@@ -205,27 +327,12 @@ fn run_pack(library: &dyn Library, row: &Row) -> Verdict {
     let got = library.pack(scale, t, &records, &pool, &mut table, &mut samples);
     let got =
         got.map(|packed| packed.map(|p| (u64::from(p.samples), p.table_bytes, p.sample_bytes)));
-    let (count, wanted) = (
-        number(row.answers[2]),
-        [bytes(row.answers[3]), bytes(row.answers[4])],
-    );
-    let expected = row
-        .refusal(0)
-        .map(|()| (count, wanted[0].len(), wanted[1].len()));
-    let wanted = if expected.is_ok() {
-        wanted
-    } else {
-        Default::default()
-    };
-    let written = holds(&table, &wanted[0]) && holds(&samples, &wanted[1]);
-    both(compare(got, expected), compare(got.map(|_| written), true))
+    compare_written(got, [&table, &samples], row)
 }
 
 fn run_track(library: &dyn Library, row: &Row) -> Verdict {
-    compare(
-        library.judge_track(&row.bytes(0), &row.bytes(1)),
-        row.refusal(0),
-    )
+    let got = library.judge_track(&row.bytes(0), &row.bytes(1));
+    compare_judged(got, row.judged().0)
 }
 
 fn run_unpack(library: &dyn Library, row: &Row) -> Verdict {
@@ -234,57 +341,47 @@ fn run_unpack(library: &dyn Library, row: &Row) -> Verdict {
     let mut pool = vec![UNTOUCHED; row.size(4)];
     let got = library.unpack(row.time(0), &table, &samples, &mut records, &mut pool);
     let got = got.map(|unpacked| unpacked.map(|u| (u64::from(u.t), u.record_bytes, u.pool_bytes)));
-    let (t, wanted) = (
-        number(row.answers[2]),
-        [bytes(row.answers[3]), bytes(row.answers[4])],
-    );
-    let expected = row
-        .refusal(0)
-        .map(|()| (t, wanted[0].len(), wanted[1].len()));
-    let wanted = if expected.is_ok() {
-        wanted
-    } else {
-        Default::default()
-    };
-    let written = holds(&records, &wanted[0]) && holds(&pool, &wanted[1]);
-    both(compare(got, expected), compare(got.map(|_| written), true))
+    compare_written(got, [&records, &pool], row)
 }
 
 fn run_check(library: &dyn Library, row: &Row) -> Verdict {
     let [records, pool, table, samples] = [2, 3, 4, 5].map(|input| row.bytes(input));
     let got = library.check(row.time(0), row.time(1), &records, &pool, &table, &samples);
-    compare(got, row.refusal(0))
+    compare_judged(got, row.judged().0)
 }
 
 fn run_tx3g_entry(library: &dyn Library, row: &Row) -> Verdict {
-    compare(library.judge_tx3g_entry(&row.bytes(0)), row.refusal(0))
+    let got = library.judge_tx3g_entry(&row.bytes(0));
+    compare_judged(got, row.judged().0)
 }
 
 fn run_tx3g_sample(library: &dyn Library, row: &Row) -> Verdict {
     let got = library.judge_tx3g_sample(&row.bytes(0), &row.bytes(1));
-    let expected = row.tx3g_refusal().map(|()| number(row.answers[3]) as usize);
-    compare(got, expected)
+    let (expected, more) = row.tx3g_judged();
+    compare_judged(got, expected.map(|()| number(more[0]) as usize))
 }
 
 fn run_style(library: &dyn Library, row: &Row) -> Verdict {
     let got = library.style(&row.bytes(0), &row.bytes(1), row.size(2));
-    let expected = row.tx3g_refusal().map(|()| bytes(row.answers[3]));
-    compare(got.map(|style| style.map(|s| s.to_vec())), expected)
+    let (expected, more) = row.tx3g_judged();
+    let expected = expected.map(|()| bytes(more[0]));
+    compare_judged(got.map(|style| style.map(|s| s.to_vec())), expected)
 }
 
 fn run_text_box(library: &dyn Library, row: &Row) -> Verdict {
     let (entry, sample) = (row.bytes(0), row.bytes(1));
     let got = library.text_box(&entry, &sample);
     let got = got.map(|found| found.map(|b| (b.who, b.offset, b.bytes.to_vec())));
-    let expected = row.tx3g_refusal().map(|()| {
-        let (who, offset) = (who(row.answers[3]), number(row.answers[4]) as usize);
+    let (expected, more) = row.tx3g_judged();
+    let expected = expected.map(|()| {
+        let (who, offset) = (who(more[0]), number(more[1]) as usize);
         let whole = match who {
             Who::Entry => &entry,
             Who::Sample => &sample,
         };
         (who, offset, whole[offset..offset + 8].to_vec())
     });
-    compare(got, expected)
+    compare_judged(got, expected)
 }
 
 fn run_program(library: &dyn Library, row: &Row) -> Verdict {
@@ -345,17 +442,20 @@ fn run_foreign_wvtt(
     asked: &str,
     answers: &[&str],
 ) -> Verdict {
-    let expected: Result<(), Refusal> = refusal(answers);
+    let (expected, more) = judged(answers, false);
     match (asked, sample_index(asked)) {
-        ("entry", _) => compare(library.judge_wvtt_entry(&track.entry), expected),
-        ("track", _) => compare(library.judge_track(&track.table, &track.samples), expected),
+        ("entry", _) => compare_judged(library.judge_wvtt_entry(&track.entry), expected),
+        ("track", _) => {
+            let got = library.judge_track(&track.table, &track.samples);
+            compare_judged(got, expected)
+        }
         (_, Some(index)) => {
             let sample = track.sample(index);
-            let judged = compare(library.judge_sample(sample), expected);
-            let expected = expected.map(|()| number(answers[2]));
+            let judged = compare_judged(library.judge_sample(sample), expected);
+            let expected = expected.map(|()| number(more[0]));
             let count = |cues: Vec<Cue>| cues.len() as u64;
             let count = library.cues(sample).map(|cues| cues.map(count));
-            both(judged, compare(count, expected))
+            both(judged, compare_judged(count, expected))
         }
         _ => Verdict::Differs(format!("unknown question {asked}")),
     }
@@ -368,14 +468,12 @@ fn run_foreign_tx3g(
     answers: &[&str],
 ) -> Verdict {
     let Some(index) = sample_index(asked) else {
-        return compare(library.judge_tx3g_entry(&track.entry), refusal(answers));
+        let got = library.judge_tx3g_entry(&track.entry);
+        return compare_judged(got, judged(answers, false).0);
     };
-    let expected: Result<usize, Tx3gRefusal> =
-        tx3g_refusal(answers).map(|()| number(answers[3]) as usize);
-    compare(
-        library.judge_tx3g_sample(&track.entry, track.sample(index)),
-        expected,
-    )
+    let (expected, more) = tx3g_judged(answers, false);
+    let got = library.judge_tx3g_sample(&track.entry, track.sample(index));
+    compare_judged(got, expected.map(|()| number(more[0]) as usize))
 }
 
 fn run_foreign_check(
@@ -394,7 +492,7 @@ fn run_foreign_check(
     );
     let (scale, t) = (number(scale) as u32, number(t) as u32);
     let got = library.check(scale, t, &records, &pool, &track.table, &track.samples);
-    Ok(compare(got, refusal(answers)))
+    Ok(compare_judged(got, judged(answers, false).0))
 }
 
 /// The program's output for the cue list beside each `wvtt` track that is packing's own.

@@ -3,6 +3,7 @@
 use captions_harness::{
     differential, Counts, Library, Model, Offered, Packed, Refusal, Tx3gRefusal, Unpacked,
 };
+use captions_model::{list, text};
 
 const ROUNDS: u64 = 30_000;
 
@@ -39,6 +40,36 @@ fn every_number_is_reached() {
     reached("judge_tx3g_entry", &[0, 1, 2, 3, 4, 7, 8, 9]);
     reached("judge_tx3g_sample", &[0, 1, 2, 3, 4, 6, 7, 8, 9]);
     reached("program", &[0, 1, 6, 8, 9, 10, 11, 12, 15]);
+}
+
+/// Wherever a text is judged, texts are bad at the first offsets and at so many in all.
+#[test]
+fn many_offsets_are_reached() {
+    let counts = compared();
+    print!("{counts}");
+    let reached = |operation: &'static str, least: usize| {
+        let offsets = &counts.offsets[operation];
+        let first = (0..4).all(|at| offsets.contains(&at));
+        assert!(first && offsets.len() >= least, "{operation}: {offsets:?}");
+    };
+    reached("judge_utf8", 100);
+    reached("judge_identifier", 100);
+    reached("judge_payload", 100);
+    reached("judge_configuration", 60);
+    reached("judge_label", 100);
+    reached("characters", 60);
+    reached("judge_sample", 60);
+    reached("cues", 60);
+    reached("judge_wvtt_entry", 30);
+    reached("judge_list", 30);
+    reached("pack", 30);
+    reached("judge_track", 30);
+    reached("unpack", 30);
+    reached("check", 30);
+    reached("judge_tx3g_sample", 30);
+    reached("style", 30);
+    reached("text_box", 30);
+    reached("modifiers", 30);
 }
 
 /// That a wrong library is found, and at which operation.
@@ -137,6 +168,73 @@ impl Library for NoPlaces {
     }
 }
 
+/// Says only which record has a bad text.
+struct NoOffsets;
+
+impl Library for NoOffsets {
+    fn judge_list(
+        &self,
+        scale: u32,
+        t: u32,
+        records: &[u8],
+        pool: &[u8],
+    ) -> Offered<Result<(), Refusal>> {
+        let answer = Model.judge_list(scale, t, records, pool)?;
+        Some(answer.map_err(|r| Refusal { offset: 0, ..r }))
+    }
+}
+
+/// Gives the offset in a record's last bad text.
+struct LastBadText;
+
+impl Library for LastBadText {
+    fn pack(
+        &self,
+        scale: u32,
+        t: u32,
+        records: &[u8],
+        pool: &[u8],
+        table: &mut [u8],
+        samples: &mut [u8],
+    ) -> Offered<Result<Packed, Refusal>> {
+        let answer = Model.pack(scale, t, records, pool, table, samples)?;
+        Some(answer.map_err(|r| {
+            let record = list::records(records).nth(r.place);
+            let texts = record.and_then(|record| record.texts(pool));
+            let last = texts.and_then(|texts| text::payload_fault(texts.payload));
+            let offset = last.filter(|_| r.number == 6).unwrap_or(r.offset);
+            Refusal { offset, ..r }
+        }))
+    }
+}
+
+/// Gives the first byte of a character that is not UTF-8, and not the byte that breaks it.
+struct StartsOfCharacters;
+
+impl Library for StartsOfCharacters {
+    fn judge_utf8(&self, text: &[u8]) -> Offered<Result<(), Refusal>> {
+        let judged = std::str::from_utf8(text).map(drop);
+        Some(judged.map_err(|error| Refusal::bad_text(0, error.valid_up_to())))
+    }
+}
+
+/// Counts the offset in a `tx3g` text from the sample's start.
+struct CountsFromTheSample;
+
+impl Library for CountsFromTheSample {
+    fn judge_tx3g_sample(
+        &self,
+        entry: &[u8],
+        sample: &[u8],
+    ) -> Offered<Result<usize, Tx3gRefusal>> {
+        let answer = Model.judge_tx3g_sample(entry, sample)?;
+        Some(answer.map_err(|r| {
+            let offset = if r.number == 6 { r.offset + 2 } else { 0 };
+            Tx3gRefusal { offset, ..r }
+        }))
+    }
+}
+
 #[test]
 fn wrong_libraries_are_found() {
     assert_found(&ClearsTheRest, "pack");
@@ -144,6 +242,10 @@ fn wrong_libraries_are_found() {
     assert_found(&ChecksLess, "check");
     assert_found(&CountsBytes, "judge_tx3g_sample");
     assert_found(&NoPlaces, "judge_sample");
+    assert_found(&NoOffsets, "judge_list");
+    assert_found(&LastBadText, "pack");
+    assert_found(&StartsOfCharacters, "judge_utf8");
+    assert_found(&CountsFromTheSample, "judge_tx3g_sample");
 }
 
 #[test]

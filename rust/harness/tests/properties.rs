@@ -6,7 +6,9 @@ use captions_harness::generate::{self, box_of, CueList, Track};
 use captions_harness::random::Random;
 use captions_model::check::check;
 use captions_model::list::{judge_list, records};
-use captions_model::text::{is_identifier, is_payload, is_utf8};
+use captions_model::text::{
+    characters, configuration_fault, identifier_fault, label_fault, payload_fault, utf8_fault,
+};
 use captions_model::time::tick;
 use captions_model::track::{judge_track, samples, table_records};
 use captions_model::unpack::unpack;
@@ -56,19 +58,13 @@ fn slow_check(list: &CueList, track: &Track) -> Result<(), Refusal> {
         let end = begin + u64::from(duration);
         let right = end <= last && (begin..end).all(|at| holds(sample, &running(list, at)));
         if !right {
-            return Err(Refusal {
-                number: 16,
-                place: index,
-            });
+            return Err(Refusal::new(16, index));
         }
         begin = end;
         count += 1;
     }
     if begin < last {
-        return Err(Refusal {
-            number: 16,
-            place: count,
-        });
+        return Err(Refusal::new(16, count));
     }
     Ok(())
 }
@@ -150,12 +146,7 @@ type Found<'a> = (u32, usize, usize, [&'a [u8]; 3]);
 fn slow_join<'a>(table: &'a [u8], bytes: &'a [u8]) -> Result<Vec<Found<'a>>, Refusal> {
     let mut found: Vec<Found> = Vec::new();
     for (index, (_, sample)) in samples(table, bytes).enumerate() {
-        let refuse = |number| {
-            Err(Refusal {
-                number,
-                place: index,
-            })
-        };
+        let refuse = |number| Err(Refusal::new(number, index));
         let mut order: Vec<usize> = Vec::new();
         for cue in wvtt::cues(sample) {
             let Some(id) = cue.id else { return refuse(17) };
@@ -179,7 +170,7 @@ fn slow_join<'a>(table: &'a [u8], bytes: &'a [u8]) -> Result<Vec<Found<'a>>, Ref
 
 /// T, records and pool by the definition of unpacking.
 fn slow_unpack(scale: u32, track: &Track) -> Result<(u32, Vec<u8>, Vec<u8>), Refusal> {
-    let refuse = |number, place| Err(Refusal { number, place });
+    let refuse = |number, place| Err(Refusal::new(number, place));
     if scale == 0 || scale > 1_000_000 {
         return refuse(10, 0);
     }
@@ -353,16 +344,88 @@ fn slow_payload(text: &[u8]) -> bool {
     slow_utf8(text) && !line_end(text.first()) && !line_end(text.last())
 }
 
-fn compare_text(text: &[u8]) {
-    assert_eq!(is_utf8(text), slow_utf8(text), "{text:x?}");
-    assert_eq!(is_identifier(text), slow_identifier(text), "{text:x?}");
-    assert_eq!(is_payload(text), slow_payload(text), "{text:x?}");
+fn slow_configuration(text: &[u8]) -> bool {
+    text.starts_with(b"WEBVTT") && slow_label(text)
 }
+
+fn slow_label(text: &[u8]) -> bool {
+    slow_utf8(text) && !text.ends_with(b"\r") && !text.ends_with(b"\n")
+}
+
+/// A `tx3g` text by the standard library's decoders.
+fn slow_tx3g(text: &[u8]) -> bool {
+    let Some(bytes) = text.strip_prefix(b"\xFE\xFF") else {
+        return slow_utf8(text);
+    };
+    let units: Vec<u16> = bytes
+        .chunks_exact(2)
+        .map(|unit| u16::from_be_bytes([unit[0], unit[1]]))
+        .collect();
+    bytes.len().is_multiple_of(2) && String::from_utf16(&units).is_ok()
+}
+
+/// Of these one makes a text right, if any continuation does: the rest of a character and a
+/// letter, the rest of `WEBVTT`, or the rest of a mark, a unit or a pair.
+const CONTINUATIONS: [&[u8]; 17] = [
+    b"",
+    b"x",
+    b"\x80x",
+    b"\x80\x80x",
+    b"\xA0\x80x",
+    b"\x80\x80\x80x",
+    b"\x90\x80\x80x",
+    b"WEBVTT",
+    b"EBVTT",
+    b"BVTT",
+    b"VTT",
+    b"TT",
+    b"T",
+    b"\xFF",
+    b"\0",
+    b"\xDC\0",
+    b"\0\xDC\0",
+];
+
+/// Where a text is bad, by the definition: at the first byte after which no continuation is
+/// right, or at its end.
+fn slow_fault(text: &[u8], rule: fn(&[u8]) -> bool) -> Option<usize> {
+    let could_be_right = |start: &[u8]| {
+        let mut ends = CONTINUATIONS.iter();
+        ends.any(|end| rule(&[start, end].concat()))
+    };
+    let bad = (0..text.len()).find(|&at| !could_be_right(&text[..=at]));
+    (!rule(text)).then(|| bad.unwrap_or(text.len()))
+}
+
+fn compare_text(text: &[u8]) {
+    let compare = |name: &str, fault: Option<usize>, rule: fn(&[u8]) -> bool| {
+        assert_eq!(fault, slow_fault(text, rule), "{name} {text:x?}");
+    };
+    compare("UTF-8", utf8_fault(text), slow_utf8);
+    compare("identifier", identifier_fault(text), slow_identifier);
+    compare("payload", payload_fault(text), slow_payload);
+    compare(
+        "configuration",
+        configuration_fault(text),
+        slow_configuration,
+    );
+    compare("label", label_fault(text), slow_label);
+    compare("tx3g", characters(text).err(), slow_tx3g);
+}
+
+/// Texts of a length that the slow definition is not too slow for.
+const SHORT: usize = 200;
 
 #[test]
 fn texts_keep_the_rules() {
     for mut random in (0..40_000).map(Random::new) {
-        compare_text(&generate::any_text(&mut random));
+        let texts = [
+            generate::any_text(&mut random),
+            generate::configuration(&mut random),
+            generate::tx3g_text(&mut random),
+        ];
+        let short = texts.iter().filter(|text| text.len() < SHORT);
+        short.for_each(|text| compare_text(text));
     }
 }
 
@@ -382,6 +445,23 @@ fn short_texts_keep_the_rules() {
             for c in bytes {
                 compare_text(&[a, b, c]);
                 bytes.iter().for_each(|&d| compare_text(&[a, b, c, d]));
+            }
+        }
+    }
+}
+
+/// All short orders of units at the ends of the surrogates, whole and with an odd byte.
+#[test]
+fn short_utf16_keeps_the_rules() {
+    let bytes = [0x00, 0x41, 0xD7, 0xD8, 0xDB, 0xDC, 0xDF, 0xE0, 0xFF];
+    for a in bytes {
+        for b in bytes {
+            compare_text(&[0xFE, 0xFF, a]);
+            compare_text(&[0xFE, 0xFF, a, 0, b]);
+            for c in bytes {
+                compare_text(&[0xFE, 0xFF, a, 0, b, 0xFF, c]);
+                compare_text(&[0xFE, 0xFF, a, b, c, a]);
+                compare_text(&[0xFE, 0xFF, 0, 0x41, a, 0, b, 0, c, 0]);
             }
         }
     }

@@ -1,8 +1,8 @@
 //! A plain model of the captions library: WebVTT (`wvtt`) and 3GPP text (`tx3g`)
 //! samples and sample entries, cue lists, tracks, packing, unpacking and the check.
 //!
-//! All inputs and outputs are lent byte slices. A refusal gives a number and a place
-//! and leaves every output as it was.
+//! All inputs and outputs are lent byte slices. A refusal gives a number, a place and an
+//! offset, and leaves every output as it was.
 
 pub mod boxes;
 pub mod check;
@@ -60,11 +60,33 @@ pub mod number {
 pub struct Refusal {
     pub number: u32,
     pub place: usize,
+    /// Where a bad text is bad, from its start; 0 for every other number.
+    pub offset: usize,
+}
+
+impl Refusal {
+    /// A refusal that is not for a bad text.
+    pub fn new(number: u32, place: usize) -> Self {
+        Refusal {
+            number,
+            place,
+            offset: 0,
+        }
+    }
+
+    /// A text at a place, bad at an offset.
+    pub fn bad_text(place: usize, offset: usize) -> Self {
+        Refusal {
+            number: number::BAD_TEXT,
+            place,
+            offset,
+        }
+    }
 }
 
 /// A refusal as a result.
 pub(crate) fn refuse<T>(number: u32, place: usize) -> Result<T, Refusal> {
-    Err(Refusal { number, place })
+    Err(Refusal::new(number, place))
 }
 
 /// Refuses unless `good` holds.
@@ -73,6 +95,14 @@ pub(crate) fn ensure(good: bool, number: u32, place: usize) -> Result<(), Refusa
         Ok(())
     } else {
         refuse(number, place)
+    }
+}
+
+/// Refuses a text with a fault.
+pub(crate) fn ensure_text(fault: Option<usize>, place: usize) -> Result<(), Refusal> {
+    match fault {
+        None => Ok(()),
+        Some(offset) => Err(Refusal::bad_text(place, offset)),
     }
 }
 

@@ -4,7 +4,7 @@ use crate::boxes::{be16, be32};
 use crate::number::*;
 use crate::time::{is_scale, is_timeline, tick};
 use crate::wvtt::{ID_LIMIT, MOST_IDENTIFIER, MOST_PAYLOAD};
-use crate::{ensure, text, Refusal};
+use crate::{ensure, ensure_text, refuse, text, Refusal};
 
 /// The bytes of a cue record.
 pub const RECORD: usize = 24;
@@ -111,14 +111,11 @@ fn judge_record(record: &Record, pool: &[u8], index: usize) -> Result<(), Refusa
     let [identifier, settings, payload] = record.lengths();
     let short = identifier <= MOST_IDENTIFIER && settings <= MOST_IDENTIFIER;
     ensure(short && payload <= MOST_PAYLOAD, PAST_LIMIT, index)?;
-    let texts = record.texts(pool).ok_or(Refusal {
-        number: BYTES_MISSING,
-        place: index,
-    })?;
-    let good = text::is_identifier(texts.identifier)
-        && text::is_identifier(texts.settings)
-        && text::is_payload(texts.payload);
-    ensure(good, BAD_TEXT, index)
+    let texts = record.texts(pool);
+    let texts = texts.ok_or(Refusal::new(BYTES_MISSING, index))?;
+    ensure_text(text::identifier_fault(texts.identifier), index)?;
+    ensure_text(text::identifier_fault(texts.settings), index)?;
+    ensure_text(text::payload_fault(texts.payload), index)
 }
 
 fn judge_times(record: &Record, scale: u32, t: u32, index: usize) -> Result<(), Refusal> {
@@ -141,10 +138,5 @@ fn judge_ids(list: &[u8]) -> Result<(), Refusal> {
         .filter(|pair| pair[0] >> 32 == pair[1] >> 32)
         .map(|pair| pair[1] as u32 as usize)
         .min();
-    again.map_or(Ok(()), |index| {
-        Err(Refusal {
-            number: ID_TWICE,
-            place: index,
-        })
-    })
+    again.map_or(Ok(()), |index| refuse(ID_TWICE, index))
 }

@@ -28,7 +28,11 @@ pub fn judge_track(table: &[u8], samples: &[u8]) -> Result<(), Refusal> {
         let Some((sample, after)) = rest.split_at_checked(size as usize) else {
             return refuse(BYTES_MISSING, index);
         };
-        judge_sample(sample).or_else(|fault| refuse(fault.number, index))?;
+        let at_index = |fault| Refusal {
+            place: index,
+            ..fault
+        };
+        judge_sample(sample).map_err(at_index)?;
         rest = after;
     }
     ensure(rest.is_empty(), BAD_SIZE, count)

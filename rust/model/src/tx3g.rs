@@ -33,6 +33,8 @@ pub struct Tx3gRefusal {
     pub who: Who,
     pub number: u32,
     pub place: usize,
+    /// Where the sample's text is bad, from the text's start; 0 for every other number.
+    pub offset: usize,
 }
 
 fn fault(who: Who) -> impl Fn(Refusal) -> Tx3gRefusal {
@@ -40,6 +42,7 @@ fn fault(who: Who) -> impl Fn(Refusal) -> Tx3gRefusal {
         who,
         number: refusal.number,
         place: refusal.place,
+        offset: refusal.offset,
     }
 }
 
@@ -319,10 +322,7 @@ fn read_sample(fonts: &Fonts, sample: &[u8]) -> Result<Sample, Refusal> {
             ensure(seen & (1 << kind) == 0, KIND_TWICE, found.place)?;
             seen |= 1 << kind;
         }
-        let refused = |number| Refusal {
-            number,
-            place: found.place,
-        };
+        let refused = |number| Refusal::new(number, found.place);
         let Some(modifier) = read_modifier(sample, found).map_err(refused)? else {
             continue;
         };
@@ -342,7 +342,7 @@ fn read_text(sample: &[u8]) -> Result<usize, Refusal> {
     let Some(text) = sample.get(2..boxes_begin(sample)) else {
         return refuse(BYTES_MISSING, 0);
     };
-    text::characters(text).map_or(refuse(BAD_TEXT, 0), Ok)
+    text::characters(text).map_err(|offset| Refusal::bad_text(0, offset))
 }
 
 fn judge_modifier(

@@ -3,7 +3,7 @@
 use crate::boxes::{be32, boxes, boxes_from, BoxAt, Boxes};
 use crate::list::Texts;
 use crate::number::*;
-use crate::{ensure, refuse, text, Refusal, Span};
+use crate::{ensure, ensure_text, refuse, text, Refusal, Span};
 
 /// Source IDs lie below this.
 pub const ID_LIMIT: u32 = 1 << 31;
@@ -123,11 +123,11 @@ fn judge_cue_part(kind: &[u8; 4], body: &[u8], place: usize) -> Result<(), Refus
         b"vsid" => judge_source_id(body, place),
         b"payl" => {
             ensure(body.len() <= MOST_PAYLOAD, PAST_LIMIT, place)?;
-            ensure(text::is_payload(body), BAD_TEXT, place)
+            ensure_text(text::payload_fault(body), place)
         }
         _ => {
             ensure(body.len() <= MOST_IDENTIFIER, PAST_LIMIT, place)?;
-            ensure(text::is_identifier(body), BAD_TEXT, place)
+            ensure_text(text::identifier_fault(body), place)
         }
     }
 }
@@ -145,19 +145,22 @@ pub struct Entry {
     pub label: Option<Span>,
 }
 
+/// Gives the fault of a text, if any.
+type Rule = fn(&[u8]) -> Option<usize>;
+
 /// Reads a `wvtt` sample entry.
 pub fn read_entry(entry: &[u8]) -> Result<Entry, Refusal> {
     judge_entry_head(entry, b"wvtt", ENTRY_FIXED)?;
     let (mut configuration, mut label) = (None, None);
     for found in boxes_from(entry, ENTRY_FIXED) {
         let found = found?;
-        let (slot, rule): (_, fn(&[u8]) -> bool) = match &found.kind {
-            b"vttC" => (&mut configuration, text::is_configuration),
-            b"vlab" => (&mut label, text::is_label),
+        let (slot, fault): (_, Rule) = match &found.kind {
+            b"vttC" => (&mut configuration, text::configuration_fault),
+            b"vlab" => (&mut label, text::label_fault),
             _ => continue,
         };
         ensure(slot.is_none(), KIND_TWICE, found.place)?;
-        ensure(rule(found.body.of(entry)), BAD_TEXT, found.place)?;
+        ensure_text(fault(found.body.of(entry)), found.place)?;
         *slot = Some(found.body);
     }
     match configuration {

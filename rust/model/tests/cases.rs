@@ -4,10 +4,13 @@ use captions_model::check::check;
 use captions_model::list::{judge_list, Record};
 use captions_model::pack::pack;
 use captions_model::program::answer;
-use captions_model::text::characters;
-use captions_model::track::{samples, table_records};
+use captions_model::text::{
+    characters, configuration_fault, identifier_fault, label_fault, payload_fault, utf8_fault,
+};
+use captions_model::track::{judge_track, samples, table_records};
+use captions_model::tx3g;
 use captions_model::unpack::unpack;
-use captions_model::wvtt::{cues, judge_sample};
+use captions_model::wvtt::{cues, judge_entry, judge_sample};
 use captions_model::Refusal;
 
 /// Records with empty texts: ID, start, end.
@@ -71,10 +74,7 @@ fn durations_are_not_rounded_by_themselves() {
 
 #[test]
 fn a_cue_lasts_a_tick() {
-    let refused = Refusal {
-        number: 10,
-        place: 0,
-    };
+    let refused = Refusal::new(10, 0);
     assert_eq!(
         judge_list(25, 1000, &list(&[(1, 41, 79)]), &[]),
         Err(refused)
@@ -109,11 +109,196 @@ fn one_cue() {
 
 #[test]
 fn character_counts() {
-    assert_eq!(characters(&[0xC3, 0xA9]), Some(1));
-    assert_eq!(characters(&[0xFE, 0xFF, 0xD8, 0x3D, 0xDE, 0x00]), Some(1));
-    assert_eq!(characters(&[0xFE, 0xFF]), Some(0));
-    assert_eq!(characters(&[0xFE, 0xFF, 0xD8, 0x3D]), None);
-    assert_eq!(characters(&[0xFE, 0xFF, 0x00]), None);
+    assert_eq!(characters(b""), Ok(0));
+    assert_eq!(characters(b"\xC3\xA9"), Ok(1));
+    assert_eq!(characters(b"\xFE\xFF\xD8\x3D\xDE\x00"), Ok(1));
+    assert_eq!(characters(b"\xFE\xFF"), Ok(0));
+}
+
+#[test]
+fn utf8_is_bad_at_the_byte_that_breaks_it() {
+    let faults: [(&[u8], usize); 20] = [
+        (b"\x80", 0),
+        (b"\xC0\x80", 0),
+        (b"\xC1", 0),
+        (b"\xF5\x80\x80\x80", 0),
+        (b"\xFE\xFF", 0),
+        (b"\xC3\x0A", 1),
+        (b"\xC3\xC3\xA9", 1),
+        (b"\xE0\x80", 1),
+        (b"\xE0\x9F\xBF", 1),
+        (b"\xED\xA0\x80", 1),
+        (b"\xF0\x80", 1),
+        (b"\xF0\x8F\xBF\xBF", 1),
+        (b"\xF4\x90\x80\x80", 1),
+        (b"\xE2\x82a", 2),
+        (b"\xF0\x9Fa", 2),
+        (b"\xF0\x9F\x98a", 3),
+        (b"ab\xE2\x82\xAC\xFF\x80", 5),
+        (b"\xC3", 1),
+        (b"a\xE2\x82", 3),
+        (b"a\xF0\x9F\x98", 4),
+    ];
+    for (text, fault) in faults {
+        assert_eq!(utf8_fault(text), Some(fault), "{text:x?}");
+        assert_eq!(identifier_fault(text), Some(fault), "{text:x?}");
+        assert_eq!(payload_fault(text), Some(fault), "{text:x?}");
+        assert_eq!(label_fault(text), Some(fault), "{text:x?}");
+    }
+    assert_eq!(utf8_fault("a\0\r\n\n-->\u{10FFFF}".as_bytes()), None);
+}
+
+#[test]
+fn identifiers_are_bad_at() {
+    let faults: [(&[u8], Option<usize>); 9] = [
+        (b"", None),
+        (b"a--b->", None),
+        (b"\0", Some(0)),
+        (b"ab\r", Some(2)),
+        (b"ab\n", Some(2)),
+        (b"-->", Some(2)),
+        (b"a--->", Some(4)),
+        (b"a-->\xFF", Some(3)),
+        (b"\xFF-->", Some(0)),
+    ];
+    for (text, fault) in faults {
+        assert_eq!(identifier_fault(text), fault, "{text:x?}");
+    }
+}
+
+#[test]
+fn payloads_are_bad_at() {
+    let faults: [(&[u8], Option<usize>); 17] = [
+        (b"", None),
+        (b"a\nb\rc\r\nd", None),
+        (b"a\0", Some(1)),
+        (b"a-->", Some(3)),
+        (b"\na", Some(0)),
+        (b"\r\na", Some(0)),
+        (b"\n", Some(0)),
+        (b"a\n\nb", Some(2)),
+        (b"a\n\rb", Some(2)),
+        (b"a\r\rb", Some(2)),
+        (b"a\r\n\nb", Some(3)),
+        (b"a\r\n\rb", Some(3)),
+        (b"a\n", Some(2)),
+        (b"a\r", Some(2)),
+        (b"a\r\n", Some(3)),
+        (b"a\xFFb\n", Some(1)),
+        (b"a\n\xC3", Some(3)),
+    ];
+    for (text, fault) in faults {
+        assert_eq!(payload_fault(text), fault, "{text:x?}");
+    }
+}
+
+#[test]
+fn configurations_and_labels_are_bad_at() {
+    let faults: [(&[u8], Option<usize>, Option<usize>); 10] = [
+        (b"", Some(0), None),
+        (b"WEBVTT", None, None),
+        (b"WEBVTT\n\n-->\0", None, None),
+        (b"WEB", Some(3), None),
+        (b"WEBvtt", Some(3), None),
+        (b"WEB\n", Some(3), Some(4)),
+        (b"WEBVTT\n", Some(7), Some(7)),
+        (b"WEBVTT\r\n", Some(8), Some(8)),
+        (b"\xEF\xBB\xBFWEBVTT", Some(0), None),
+        (b"WEBVTT\xC3\n", Some(7), Some(7)),
+    ];
+    for (text, configuration, label) in faults {
+        assert_eq!(configuration_fault(text), configuration, "{text:x?}");
+        assert_eq!(label_fault(text), label, "{text:x?}");
+    }
+}
+
+#[test]
+fn tx3g_texts_are_bad_at() {
+    let faults: [(&[u8], usize); 15] = [
+        (b"\xFE", 1),
+        (b"\xFEA", 1),
+        (b"\xFE\xFE\xFF", 1),
+        (b"\xFF\xFE", 0),
+        (b"a\xFE\xFF", 1),
+        (b"\xE0\x80", 1),
+        (b"\xFE\xFF\x00", 3),
+        (b"\xFE\xFF\xD8", 3),
+        (b"\xFE\xFF\xD8\x3D", 4),
+        (b"\xFE\xFF\xD8\x3D\xDE", 5),
+        (b"\xFE\xFF\xD8\x3D\x00\x41", 4),
+        (b"\xFE\xFF\xD8\x3D\xD8\x3D\xDE\x00", 4),
+        (b"\xFE\xFF\x00\x41\xDC\x00", 4),
+        (b"\xFE\xFF\xDC", 2),
+        (b"\xFE\xFF\xD8\x3D\xDE\x00\xDE\x00", 6),
+    ];
+    for (text, fault) in faults {
+        assert_eq!(characters(text), Err(fault), "{text:x?}");
+    }
+}
+
+/// A record and the pool of its texts.
+fn with_texts(identifier: &[u8], settings: &[u8], payload: &[u8]) -> (Vec<u8>, Vec<u8>) {
+    let record = Record {
+        id: 1,
+        end: 10,
+        identifier_len: identifier.len() as u16,
+        settings_len: settings.len() as u16,
+        payload_len: payload.len() as u16,
+        ..Record::default()
+    };
+    let pool = [identifier, settings, payload].concat();
+    (record.to_bytes().to_vec(), pool)
+}
+
+#[test]
+fn the_first_bad_text_of_a_record_counts() {
+    let judged = |identifier: &[u8], settings: &[u8], payload: &[u8]| {
+        let (record, pool) = with_texts(identifier, settings, payload);
+        let records = [list(&[(0, 0, 10)]), record].concat();
+        judge_list(1000, 10, &records, &pool).expect_err("a text is bad")
+    };
+    assert_eq!(judged(b"abc\n", b"\xFF", b"\0"), Refusal::bad_text(1, 3));
+    assert_eq!(judged(b"abc", b"line\xFF", b"\0"), Refusal::bad_text(1, 4));
+    assert_eq!(judged(b"abc", b"line", b"a\n"), Refusal::bad_text(1, 2));
+}
+
+#[test]
+fn a_bad_text_has_its_place_and_its_offset() {
+    let sample = b"\0\0\0\x1Fvttc\0\0\0\x0Cvsid\0\0\0\x07\0\0\0\x0BpaylHi\xFF";
+    assert_eq!(judge_sample(sample), Err(Refusal::bad_text(20, 2)));
+    let empty = b"\0\0\0\x08vtte";
+    let bytes = [&empty[..], sample].concat();
+    let table = b"\0\0\0\x01\0\0\0\x08\0\0\0\x01\0\0\0\x1F";
+    let refused = Refusal::bad_text(1, 2);
+    assert_eq!(judge_track(table, &bytes), Err(refused));
+    assert_eq!(unpacked(1000, table, &bytes), Err(refused));
+    assert_eq!(check(1000, 2, &[], &[], table, &bytes), Err(refused));
+    let entry = b"\0\0\0\x1Ewvtt\0\0\0\0\0\0\0\x01\0\0\0\x0EvttCWEBVTX";
+    assert_eq!(judge_entry(entry), Err(Refusal::bad_text(16, 5)));
+}
+
+/// A `tx3g` entry with font 1.
+fn tx3g_entry() -> Vec<u8> {
+    let mut entry = [b"\0\0\0\x3Btx3g", &[0; 38][..]].concat();
+    entry[39] = 1;
+    entry.extend(b"\0\0\0\x0Dftab\0\x01\0\x01\0");
+    entry
+}
+
+#[test]
+fn a_bad_tx3g_text_counts_from_its_first_byte() {
+    let entry = tx3g_entry();
+    let refused = tx3g::Tx3gRefusal {
+        who: tx3g::Who::Sample,
+        number: 6,
+        place: 0,
+        offset: 4,
+    };
+    let sample = b"\0\x06\xFE\xFF\xD8\x3D\0A";
+    assert_eq!(tx3g::judge_sample(&entry, sample), Err(refused));
+    assert_eq!(tx3g::style(&entry, sample, 0), Err(refused));
+    assert_eq!(tx3g::text_box(&entry, sample), Err(refused));
+    assert_eq!(tx3g::judge_sample(&entry, b"\0\x02Hi"), Ok(2));
 }
 
 #[test]
@@ -127,10 +312,7 @@ fn limits() {
         .to_bytes()
     };
     assert_eq!(judge_list(1000, 1, &named(255), &[b'i'; 300]), Ok(()));
-    let refused = Refusal {
-        number: 9,
-        place: 0,
-    };
+    let refused = Refusal::new(9, 0);
     assert_eq!(judge_list(1000, 1, &named(256), &[b'i'; 300]), Err(refused));
     let many = |count: u32| list(&(0..count).map(|id| (id, 0, 1)).collect::<Vec<_>>());
     assert_eq!(judge_list(1000, 1, &many(1024), &[]), Ok(()));
@@ -149,13 +331,7 @@ fn longest_result() {
     let list: Vec<u8> = (0..1024).flat_map(|id| record(id).to_bytes()).collect();
     let (mut table, mut bytes) = (vec![0; 8 * 2049], vec![0; 16]);
     let refused = pack(1000, 2048, &list, &[b'p'; 4095], &mut table, &mut bytes);
-    assert_eq!(
-        refused,
-        Err(Refusal {
-            number: 15,
-            place: 1
-        })
-    );
+    assert_eq!(refused, Err(Refusal::new(15, 1)));
     let refused = pack(
         1000,
         2048,
@@ -164,13 +340,7 @@ fn longest_result() {
         &mut table[..2046 * 8],
         &mut bytes,
     );
-    assert_eq!(
-        refused,
-        Err(Refusal {
-            number: 15,
-            place: 0
-        })
-    );
+    assert_eq!(refused, Err(Refusal::new(15, 0)));
     assert!(table.iter().chain(&bytes).all(|&b| b == 0));
 }
 
@@ -183,18 +353,9 @@ fn ids_after_an_empty_sample_are_not_joined() {
         0, 0, 0, 1, 0, 0, 0, 28, 0, 0, 0, 1, 0, 0, 0, 8, 0, 0, 0, 1, 0, 0, 0, 28,
     ];
     assert_eq!(judge_sample(cue), Ok(()));
-    assert_eq!(
-        unpacked(1000, &table, &bytes),
-        Err(Refusal {
-            number: 13,
-            place: 2
-        })
-    );
+    assert_eq!(unpacked(1000, &table, &bytes), Err(Refusal::new(13, 2)));
     let list = list(&[(7, 0, 3)]);
-    let refused = Err(Refusal {
-        number: 16,
-        place: 1,
-    });
+    let refused = Err(Refusal::new(16, 1));
     assert_eq!(check(1000, 3, &list, &[], &table, &bytes), refused);
 }
 
@@ -206,15 +367,9 @@ fn a_sample_over_a_cut_differs() {
     let mut longer = table.clone();
     longer[3] = 3;
     longer[11] = 1;
-    let refused = Err(Refusal {
-        number: 16,
-        place: 0,
-    });
+    let refused = Err(Refusal::new(16, 0));
     assert_eq!(check(1000, 3, &list, &[], &longer, &bytes), refused);
-    let refused = Err(Refusal {
-        number: 16,
-        place: 1,
-    });
+    let refused = Err(Refusal::new(16, 1));
     assert_eq!(
         check(1000, 3, &list, &[], &table[..8], &bytes[..28]),
         refused

@@ -1,25 +1,29 @@
 -- `captions::flat_held` meets its contract: case by case.
+use mathlib.Core.Path.{ap, _∙_}
 use borrow.Author.Needs.{needs}
+use Rattle.captions.specs.Flat.{noCue}
 use Rattle.captions.proofs.flat_held.Statement.{statement}
 use Rattle.captions.proofs.flat_held.Tie as tie
 
 returns : tie.Need-returns
-returns c = rw (c .before .h .given .1)
+returns c = rw (c .before .before .h .given .1, c .fault-at .ensures)
 
 returns-2 : tie.Need-returns-2
 returns-2 c = rw (c .before .before .h2 .given .1) (c .no-cue .ensures)
 
 returns-3 : tie.Need-returns-3
-returns-3 c = rw (c .before .enum-told .given .1) (c .no-cue2 .ensures)
+returns-3 c = rw (c .before .before .enum-told .given .1) (c .no-cue2 .ensures ∙ ap noCue (c .before .fault-at2 .ensures))
 
 pub flat-held-spec : {M : Type 1} → statement M
 flat-held-spec =
     tie.close
     (tie.spec
     (λ c. search needs)
+    (λ c κs. search needs)
     (λ c. search needs)
     (λ c κs. search needs)
     (λ c. search needs)
+    (λ c κs. search needs)
     (λ c κs. search needs)
     returns
     returns-2

@@ -4,7 +4,7 @@ use Rattle.captions.proofs.flat_reading.Statement.{statement}
 use Rattle.captions.proofs.flat_reading.Tie as tie
 
 returns : tie.Need-returns
-returns c = rw (c .before .r .given .1)
+returns c = rw (c .before .before .r .given .1, c .fault-at .ensures)
 
 returns-2 : tie.Need-returns-2
 returns-2 c = rw (c .before .r2 .given .1)
@@ -14,4 +14,12 @@ returns-3 c = rw (c .before .r3 .given .1)
 
 pub flat-reading-spec : {M : Type 1} → statement M
 flat-reading-spec =
-    tie.close (tie.spec (λ c. search needs) (λ c. search needs) (λ c. search needs) returns returns-2 returns-3)
+    tie.close
+    (tie.spec
+    (λ c. search needs)
+    (λ c κs. search needs)
+    (λ c. search needs)
+    (λ c. search needs)
+    returns
+    returns-2
+    returns-3)

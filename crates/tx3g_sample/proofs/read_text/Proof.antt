@@ -30,7 +30,7 @@ returns-3 : tie.Need-returns-3
 returns-3 c = let w = text-good _ _ (fits (c .before .before .before)) (same (c .before .before .before) ∙ c .before .t .given .1) in rw (w .0, w .1)
 
 returns-4 : tie.Need-returns-4
-returns-4 c = rw (text-bad _ (fits (c .before .before .before)) (same (c .before .before .before) ∙ c .before .enum-told .given .1), c .fault-at3 .ensures)
+returns-4 c = rw (text-bad _ _ (fits (c .before .before .before .before)) (same (c .before .before .before .before) ∙ c .before .before .t2 .given .1), c .bad-text-at .ensures)
 
 pub read-text-spec : {M : Type 1} → statement M
 read-text-spec =

@@ -2,8 +2,9 @@
 
 use captions_model::list::{records, Record, MOST_RECORDS};
 use captions_model::time::{milliseconds, tick};
+use captions_model::wvtt::{MOST_IDENTIFIER, MOST_PAYLOAD};
 
-use super::text::{any_text, identifier, payload};
+use super::text::{any_text, bad_text, identifier, payload};
 use crate::random::Random;
 
 /// Scale, T, records and pool.
@@ -168,19 +169,27 @@ fn dense_texts(random: &mut Random, count: usize) -> (Vec<Record>, Vec<u8>) {
     let mut texts = Vec::new();
     for _ in 0..count {
         let parts = [identifier(random), identifier(random), payload(random)];
-        texts.push(Record {
-            offset: pool.len() as u32,
-            identifier_len: parts[0].len() as u16,
-            settings_len: parts[1].len() as u16,
-            payload_len: parts[2].len() as u16,
-            ..Record::default()
-        });
-        pool.extend(parts.concat());
+        let mut record = Record::default();
+        put_texts(&mut record, parts, &mut pool);
+        texts.push(record);
         if random.percent(10) {
             pool.push(random.byte());
         }
     }
     (texts, pool)
+}
+
+/// Puts a record's texts at the end of the pool.
+fn put_texts(record: &mut Record, parts: [Vec<u8>; 3], pool: &mut Vec<u8>) {
+    let [identifier_len, settings_len, payload_len] = parts.each_ref().map(|p| p.len() as u16);
+    *record = Record {
+        offset: pool.len() as u32,
+        identifier_len,
+        settings_len,
+        payload_len,
+        ..*record
+    };
+    pool.extend(parts.concat());
 }
 
 /// Texts that overlap in one pool of plain letters.
@@ -235,11 +244,15 @@ pub fn full_list(random: &mut Random) -> CueList {
 
 fn add_fault(random: &mut Random, list: &mut CueList) {
     let mut all: Vec<Record> = records(&list.records).collect();
-    match random.below(6) {
+    match random.below(8) {
         0 => return fault_of_all(random, list),
         1 if !list.pool.is_empty() => return fault_of_pool(random, list),
         2 if all.len() > 1 => fault_of_two(random, &mut all),
         _ if all.is_empty() => return fault_of_all(random, list),
+        3 | 4 => {
+            let at = random.below(all.len());
+            fault_of_texts(random, &mut all[at], &mut list.pool);
+        }
         _ => {
             let at = random.below(all.len());
             fault_of_one(random, &mut all[at], list);
@@ -268,6 +281,20 @@ fn fault_of_pool(random: &mut Random, list: &mut CueList) {
     for (to, from) in list.pool[at..end].iter_mut().zip(bad) {
         *to = from;
     }
+}
+
+/// Gives a record other texts, of which several may be bad.
+pub fn fault_of_texts(random: &mut Random, record: &mut Record, pool: &mut Vec<u8>) {
+    let mut short = || match random.below(2) {
+        0 => bad_text(random, MOST_IDENTIFIER),
+        _ => identifier(random),
+    };
+    let (name, settings) = (short(), short());
+    let text = match random.below(3) {
+        0 => payload(random),
+        _ => bad_text(random, MOST_PAYLOAD),
+    };
+    put_texts(record, [name, settings, text], pool);
 }
 
 fn fault_of_two(random: &mut Random, all: &mut [Record]) {

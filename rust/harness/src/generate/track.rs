@@ -1,15 +1,15 @@
 //! Tracks.
 
-use captions_model::boxes::boxes_from;
+use captions_model::boxes::{boxes_from, BoxAt, HEADER};
 use captions_model::list::{records, Record};
 use captions_model::pack::pack;
 use captions_model::track::{samples, MOST_SAMPLES};
 
 use super::boxes::{box_of, other_box};
-use super::cue_list::{any_scale, good_list, list, CueList};
+use super::cue_list::{any_scale, fault_of_texts, good_list, list, CueList};
 use super::damage::{damage_boxes, damage_bytes};
-use super::text::{identifier, payload};
-use super::wvtt::wvtt_sample;
+use super::text::{bad_text, identifier, payload};
+use super::wvtt::{maybe_bad, wvtt_sample};
 use crate::random::Random;
 
 /// A sample table and the samples.
@@ -134,12 +134,13 @@ fn change_list(random: &mut Random, list: &mut CueList) {
     }
     let at = random.below(all.len());
     let record = &mut all[at];
-    match random.below(6) {
+    match random.below(7) {
         0 => record.start = record.start.wrapping_add(1),
         1 => record.end = record.end.wrapping_sub(1),
         2 => record.id ^= 1 << random.below(31),
         3 => record.payload_len = record.payload_len.saturating_sub(1),
         4 => drop(all.remove(at)),
+        5 => fault_of_texts(random, record, &mut list.pool),
         _ => all.swap(0, at),
     }
     list.records = all.iter().flat_map(Record::to_bytes).collect();
@@ -199,7 +200,7 @@ fn changed_sample(random: &mut Random, sample: &[u8]) -> Vec<u8> {
         .map(|b| sample[b.place..b.body.end].to_vec())
         .collect();
     let at = random.below(boxes.len().max(1));
-    match random.below(9) {
+    match random.below(10) {
         0 => random.shuffle(&mut boxes),
         1 if boxes.len() > 1 => drop(boxes.remove(at)),
         2 if !boxes.is_empty() => boxes.push(boxes[at].clone()),
@@ -208,6 +209,7 @@ fn changed_sample(random: &mut Random, sample: &[u8]) -> Vec<u8> {
         5 => rename(random, &mut boxes, at, b"iden"),
         6 => add_part(random, &mut boxes, at),
         7 => change_id(random, &mut boxes, at),
+        8 => spoil_part(random, &mut boxes, at),
         _ => {
             let mut bytes = boxes.concat();
             damage_boxes(random, &mut bytes);
@@ -247,6 +249,25 @@ fn add_part(random: &mut Random, boxes: &mut [Vec<u8>], at: usize) {
         let body = [&cue[8..], &part].concat();
         *cue = box_of(b"vttc", &body);
     }
+}
+
+/// Gives a part of a cue a text that is bad, mostly.
+fn spoil_part(random: &mut Random, boxes: &mut [Vec<u8>], at: usize) {
+    let Some(cue) = boxes.get_mut(at) else { return };
+    if cue.get(4..8) != Some(b"vttc") {
+        return;
+    }
+    let parts: Vec<BoxAt> = boxes_from(cue, HEADER).map_while(Result::ok).collect();
+    let spoiled = random.below(parts.len().max(1));
+    let mut body = Vec::new();
+    for (index, part) in parts.iter().enumerate() {
+        if index == spoiled {
+            body.extend(box_of(&part.kind, &bad_text(random, 255)));
+        } else {
+            body.extend(&cue[part.place..part.body.end]);
+        }
+    }
+    *cue = box_of(b"vttc", &body);
 }
 
 /// Changes bytes of table or samples.
@@ -299,8 +320,8 @@ fn few_cues(random: &mut Random) -> Track {
 fn cue_with_id(random: &mut Random, id: u32) -> Vec<u8> {
     let mut parts = vec![
         box_of(b"vsid", &id.to_be_bytes()),
-        box_of(b"iden", &identifier(random)),
-        box_of(b"payl", &payload(random)),
+        box_of(b"iden", &maybe_bad(random, 1, identifier)),
+        box_of(b"payl", &maybe_bad(random, 1, payload)),
     ];
     random.shuffle(&mut parts);
     box_of(b"vttc", &parts.concat())

@@ -2,7 +2,7 @@
 
 use super::boxes::{box_of, misplaced_box, other_box};
 use super::damage::{damage_boxes, damage_bytes};
-use super::text::{any_text, identifier, payload};
+use super::text::{any_text, bad_text, identifier, payload};
 use crate::random::Random;
 
 /// A WebVTT sample, good or damaged.
@@ -50,11 +50,11 @@ fn cue_box(random: &mut Random) -> Vec<u8> {
     }
     for kind in [b"iden", b"ctim", b"sttg"] {
         if random.percent(50) {
-            parts.push(box_of(kind, &maybe_bad(random, identifier)));
+            parts.push(box_of(kind, &maybe_bad(random, 6, identifier)));
         }
     }
     if random.percent(97) {
-        parts.push(box_of(b"payl", &maybe_bad(random, payload)));
+        parts.push(box_of(b"payl", &maybe_bad(random, 6, payload)));
     }
     if random.percent(15) {
         parts.push(other_box(random));
@@ -85,12 +85,14 @@ fn source_id(random: &mut Random) -> Vec<u8> {
     body
 }
 
-/// A good text, or rarely any text.
-fn maybe_bad(random: &mut Random, good: fn(&mut Random) -> Vec<u8>) -> Vec<u8> {
-    if random.percent(6) {
+/// A good text, or in so many of a hundred cases any text.
+pub fn maybe_bad(random: &mut Random, percent: usize, good: fn(&mut Random) -> Vec<u8>) -> Vec<u8> {
+    if !random.percent(percent) {
+        good(random)
+    } else if random.percent(50) {
         any_text(random)
     } else {
-        good(random)
+        bad_text(random, 255)
     }
 }
 
@@ -101,7 +103,7 @@ pub fn wvtt_entry(random: &mut Random) -> Vec<u8> {
         boxes.push(box_of(b"vttC", &configuration(random)));
     }
     if random.percent(60) {
-        boxes.push(box_of(b"vlab", &maybe_bad(random, identifier)));
+        boxes.push(box_of(b"vlab", &maybe_bad(random, 6, identifier)));
     }
     if random.percent(5) && !boxes.is_empty() {
         boxes.push(boxes[0].clone());
@@ -129,13 +131,16 @@ pub fn mend_size(random: &mut Random, entry: &mut [u8]) {
     }
 }
 
-fn configuration(random: &mut Random) -> Vec<u8> {
+/// A `vttC` body, good or bad.
+pub fn configuration(random: &mut Random) -> Vec<u8> {
     let mut text = b"WEBVTT".to_vec();
-    match random.below(10) {
+    match random.below(12) {
         0 => text = any_text(random),
         1 => text.extend(any_text(random)),
-        2 => text.extend(b"\n"),
-        3..=5 => text.extend(b"\nNOTE x"),
+        2 => text.extend(bad_text(random, 300)),
+        3 => text.extend(b"\n"),
+        4 => damage_bytes(random, &mut text),
+        5..=7 => text.extend(b"\nNOTE x"),
         _ => {}
     }
     text

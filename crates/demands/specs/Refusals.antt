@@ -1,0 +1,84 @@
+-- Demand 1: a refusal's number is never 0 and stands in document 01's table; its second place is 0 beside every number but 6, and beside 6 it names the first bad byte of the
+-- text that its place names; whatever was given.
+use Prim.Native.Nat.{ℕ, _≤_}
+use mathlib.Core.Path.{_≡_}
+use mathlib.Core.Logic.{_⊎_, _≢_}
+use mathlib.Core.List.{List}
+use lib.ListN.{length}
+use Rattle.verdict.specs.declared.Verdict.{Verdict}
+use Rattle.verdict.specs.declared.Verdict.the-variants.{Fine, Refused}
+use Rattle.verdict.specs.Judgement.{badText}
+use Rattle.characters.specs.declared.Counted.{Counted}
+use Rattle.characters.specs.declared.Counted.the-variants.{Characters, Bad}
+use Rattle.characters.specs.Characters.{charactersOf}
+use Rattle.boxes.specs.Boxes.{stoppedBy, stepAt, boxesIn}
+use Rattle.wvtt.specs.Sample.{judgeSample}
+use Rattle.wvtt_cues.specs.declared.Held.{Held as Cue}
+use Rattle.wvtt_cues.specs.declared.Held.the-variants.{Cue as HeldCue, Refused as NoCue, End as NoMoreCues}
+use Rattle.wvtt_cues.specs.Cues.{nextCue}
+use Rattle.wvtt_entry.specs.Entry.{judgeEntry}
+use Rattle.cues.specs.Judgement.{judgeList}
+use Rattle.track.specs.Track.{judgeTrack}
+use Rattle.conform.specs.Conformance.{conformance}
+use Rattle.pack.specs.declared.Packed.{Packed}
+use Rattle.pack.specs.declared.Packed.the-variants.{Done, Refused as NotPacked}
+use Rattle.pack.specs.Packing.{packedOf}
+use Rattle.unpack.specs.declared.Unpacked.{Unpacked}
+use Rattle.unpack.specs.declared.Unpacked.the-variants.{Done as Unpacks, Refused as NotUnpacked}
+use Rattle.unpack.specs.Unpacking.{unpackOf}
+use Rattle.tx3g_entry.specs.Entry.{judgeEntry as judgeTx3gEntry}
+use Rattle.tx3g_sample.specs.Sample.{readSample, verdictOf}
+use Rattle.tx3g_modifiers.specs.declared.Held.{Held as Modifier}
+use Rattle.tx3g_modifiers.specs.declared.Held.the-variants.{One as HeldModifier, Refused as NoModifier, End as NoMoreModifiers}
+use Rattle.tx3g_modifiers.specs.Modifiers.{nextModifier}
+use Rattle.tx3g_style.specs.Style.{styleOf, faultOf}
+use Rattle.demands.specs.Offsets.{InSample, InEntry, InRecord, InTrack, InText, InTx3g, Never}
+
+-- the numbers of refusals: 1 to 17
+abbrev pub InTable : ℕ → Type 0
+InTable n = (1 ≤ n) × (n ≤ 17)
+
+-- no refusal, or one with a number of the table; if that is 6, `Says` holds of its two places, else the second is 0
+abbrev pub Listed : (ℕ → ℕ → Type 0) → Verdict → Type 0
+Listed Says Fine = Unit {0}
+Listed Says (Refused r) = InTable (r .number) × (r .number ≢ 6 → r .offset ≡ 0) × (r .number ≡ 6 → Says (r .place) (r .offset))
+
+abbrev pub packing : Packed → Verdict
+packing (Done n t b) = Fine
+packing (NotPacked r) = Refused r
+
+abbrev pub unpacking : Unpacked → Verdict
+unpacking (Unpacks n p T) = Fine
+unpacking (NotUnpacked r) = Refused r
+
+abbrev pub ofCue : Cue → Verdict
+ofCue (HeldCue c n) = Fine
+ofCue (NoCue r) = Refused r
+ofCue NoMoreCues = Fine
+
+abbrev pub ofModifier : Modifier → Verdict
+ofModifier (HeldModifier m n) = Fine
+ofModifier (NoModifier r) = Refused r
+ofModifier NoMoreModifiers = Fine
+
+-- a text whose characters cannot be counted is bad (6), at place 0
+abbrev pub counting : Counted → Verdict
+counting (Characters n) = Fine
+counting (Bad q) = Refused (badText 0 q)
+
+-- for every operation that refuses
+pub record RefusalsAre : Type 0 where
+  pub count : (s : List ℕ) → Listed (InText s) (counting (charactersOf s))
+  pub step : (s : List ℕ) (at end : ℕ) → Listed Never (stoppedBy (stepAt s at end))
+  pub sample : (s : List ℕ) → Listed (InSample s) (judgeSample s)
+  pub cue : (s : List ℕ) (from : ℕ) → Listed Never (ofCue (nextCue s (boxesIn s from (length s))))
+  pub entry : (e : List ℕ) → Listed (InEntry e) (judgeEntry e)
+  pub list : (scale T : ℕ) (records pool : List ℕ) → Listed (InRecord records pool) (judgeList scale T records pool)
+  pub track : (table samples : List ℕ) → Listed (InTrack table samples) (judgeTrack table samples)
+  pub check : (scale T : ℕ) (records pool table samples : List ℕ) → Listed (λ p q. InRecord records pool p q ⊎ InTrack table samples p q) (conformance scale T records pool table samples)
+  pub pack : (scale T : ℕ) (records pool : List ℕ) (tableRoom samplesRoom : ℕ) → Listed (InRecord records pool) (packing (packedOf scale T records pool tableRoom samplesRoom))
+  pub unpack : (scale : ℕ) (table samples : List ℕ) (recordsRoom poolRoom : ℕ) → Listed (InTrack table samples) (unpacking (unpackOf scale table samples recordsRoom poolRoom))
+  pub tx3g-entry : (e : List ℕ) → Listed Never (judgeTx3gEntry e)
+  pub tx3g-sample : (e s : List ℕ) → Listed (InTx3g s) (verdictOf (readSample e s))
+  pub modifier : (s : List ℕ) (from : ℕ) → Listed Never (ofModifier (nextModifier s (boxesIn s from (length s))))
+  pub style : (e s : List ℕ) (k : ℕ) → Listed (InTx3g s) (faultOf (styleOf e s k))

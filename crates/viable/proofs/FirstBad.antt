@@ -1,0 +1,138 @@
+-- The first bad byte is one, and `judgedBy` finds it. What a rule owes for it is `Beginnings`.
+use Prim.Native.Nat.{ℕ, zero, suc, _<_, _≤_}
+use mathlib.Core.Path.{_≡_, refl, sym, ap, ap₂}
+use mathlib.Core.Logic.{inl, inr}
+use mathlib.Core.Bool.{Bool, true, false}
+use mathlib.Core.List.{List, [], _∷_, _++_, append-assoc}
+use native.Mathlib.Omega.{arith}
+use native.Mathlib.Nat.{le-of-suc-le-suc, not-suc-le-zero}
+use lib.ListN.{length, take, drop, take-append-drop}
+use Rattle.base.specs.Choice.{pick}
+use Rattle.base.proofs.Choice.{by-test, true-false, either}
+use Rattle.viable.specs.FirstBad.{Continues, FirstBad, Passes, stopsAt, judgedBy, JudgedIs}
+use Rattle.viable.specs.declared.Judged.the-variants.{Right, Bad}
+
+-- `begun` passes exactly the beginnings of the texts that pass `keeps`
+pub record Beginnings (keeps begun : List ℕ → Bool) : Type 0 where
+  pub continued : (p : List ℕ) → begun p ≡ true → Continues (Passes keeps) p
+  pub begins : (p c : List ℕ) → keeps (p ++ c) ≡ true → begun p ≡ true
+
+-- ---- at most one
+
+module _ {Keeps : List ℕ → Type 0} {s : List ℕ} where
+  within-text : {q : ℕ} → FirstBad Keeps s q → q ≤ length s
+  within-text {q} f = elim (f .then) [ inl a ↦ omega arith | inr a ↦ omega arith ]
+
+  not-before : {q r : ℕ} → FirstBad Keeps s q → FirstBad Keeps s r → r ≤ q
+  not-before {q} {r} f g =
+      let l = within-text g in
+      either r q (λ h. h) (λ h. elim (f .then) [ inl a ↦ absurd (omega arith) | inr a ↦ absurd (a .1 (g .upto (suc q) h)) ])
+
+  only-one : {q r : ℕ} → FirstBad Keeps s q → FirstBad Keeps s r → q ≡ r
+  only-one {q} {r} f g =
+      let h = not-before f g in
+      let k = not-before g f in
+      omega arith
+
+  -- and none in a text that keeps the rule
+  not-both : {q : ℕ} → FirstBad Keeps s q → Keeps s → ⊥
+  not-both {q} f k =
+      elim (f .then) [ inl a ↦ a .1 k | inr a ↦ a .1 (drop (suc q) s, rw (take-append-drop (suc q) s) k) ]
+
+-- ---- where a text stops to be a beginning
+
+-- a byte further in
+later : {keeps : List ℕ → Bool} {b : ℕ} {s : List ℕ} {q : ℕ} → FirstBad (Passes (λ t. keeps (b ∷ t))) s q → FirstBad (Passes keeps) (b ∷ s) (suc q)
+later {keeps} {b} {s} {q} f = record { upto = up; then = elim (f .then) [ inl a ↦ inl (ap suc (a .0), a .1) | inr a ↦ inr (omega arith, a .1) ] }
+  where
+    up : (k : ℕ) → k ≤ suc q → Continues (Passes keeps) (take k (b ∷ s))
+    up zero h = let r = f .upto 0 (omega arith) in (b ∷ r .0, r .1)
+    up (suc k) h = f .upto k (omega arith)
+
+-- the beginnings that go on after the byte b
+after : {keeps begun : List ℕ → Bool} (b : ℕ) → Beginnings keeps begun → Beginnings (λ t. keeps (b ∷ t)) (λ p. begun (b ∷ p))
+after b v = record { continued = λ p h. v .continued (b ∷ p) h; begins = λ p c h. v .begins (b ∷ p) c h }
+
+-- what begins a beginning is one
+pub closed : {keeps begun : List ℕ → Bool} → Beginnings keeps begun → (p c : List ℕ) → begun (p ++ c) ≡ true → begun p ≡ true
+closed v p c h = let r = v .continued (p ++ c) h in v .begins p (c ++ r .0) (rw (← append-assoc p c (r .0)) (r .1))
+
+front : {keeps begun : List ℕ → Bool} → Beginnings keeps begun → begun [] ≡ true → (s : List ℕ) (k : ℕ) → k ≤ 0 → Continues (Passes keeps) (take k s)
+front v h s zero l = v .continued [] h
+front v h s (suc k) l = absurd (not-suc-le-zero l)
+
+-- the first byte with which the text is no beginning any more is its first bad byte
+stops-first : {keeps begun : List ℕ → Bool} → Beginnings keeps begun → begun [] ≡ true → (s : List ℕ) → keeps s ≡ false → FirstBad (Passes keeps) s (stopsAt begun s)
+unfolding stopsAt
+stops-first v h [] n = record { upto = front v h []; then = inl (refl, λ k. true-false _ k n) }
+stops-first {keeps} {begun} v h (b ∷ s) n =
+    by-test (begun (b ∷ []))
+    (λ e. rw e (later (stops-first (after b v) e s n)))
+    (λ e. rw e (record { upto = front v h (b ∷ s); then = inr (omega arith, λ c. true-false (begun (b ∷ [])) (v .begins (b ∷ []) (c .0) (c .1)) e) }))
+
+-- what a loop knows: the first q bytes are a beginning, one more are none; or all are one
+pub stops-here : {keeps begun : List ℕ → Bool} → Beginnings keeps begun → (s : List ℕ) (q : ℕ) → q < length s → begun (take q s) ≡ true → begun (take (suc q) s) ≡ false → stopsAt begun s ≡ q
+unfolding stopsAt
+stops-here v [] q l h n = absurd (not-suc-le-zero l)
+stops-here v (b ∷ s) zero l h n = rw n
+stops-here v (b ∷ s) (suc q) l h n = rw (closed v (b ∷ []) (take q s) h) (ap suc (stops-here (after b v) s q (le-of-suc-le-suc l) h n))
+
+pub stops-end : {keeps begun : List ℕ → Bool} → Beginnings keeps begun → (s : List ℕ) → begun s ≡ true → stopsAt begun s ≡ length s
+unfolding stopsAt
+stops-end v [] h = refl
+stops-end v (b ∷ s) h = rw (closed v (b ∷ []) s h) (ap suc (stops-end (after b v) s h))
+
+-- only the text's own beginnings count
+pub stops-same : (f g : List ℕ → Bool) (s : List ℕ) → ((k : ℕ) → k ≤ length s → f (take k s) ≡ g (take k s)) → stopsAt f s ≡ stopsAt g s
+unfolding stopsAt
+stops-same f g [] h = refl
+stops-same f g (b ∷ s) h =
+    ap₂ (λ (x : Bool) (n : ℕ). pick x (suc n) 0) (h 1 (omega arith))
+    (stops-same (λ p. f (b ∷ p)) (λ p. g (b ∷ p)) s (λ k l. h (suc k) (omega arith)))
+
+-- ---- the judgement
+
+module _ (keeps begun : List ℕ → Bool) (s : List ℕ) where
+  pub judged-right : keeps s ≡ true → Right ≡ judgedBy keeps begun s
+  unfolding judgedBy
+  judged-right h = rw h
+
+  pub judged-bad : (q : ℕ) → keeps s ≡ false → q ≡ stopsAt begun s → Bad q ≡ judgedBy keeps begun s
+  unfolding judgedBy
+  judged-bad q h e = rw h (ap Bad e)
+
+  -- what an answer says
+  pub when-right : judgedBy keeps begun s ≡ Right → keeps s ≡ true
+  when-right e =
+      by-test (keeps s) (λ h. h)
+      (λ h.
+      let k = judged-bad (stopsAt begun s) h refl in
+      let z : _≡_ {A = ℕ} 0 1 = cc in
+      absurd (omega arith))
+
+  pub when-bad : (q : ℕ) → judgedBy keeps begun s ≡ Bad q → (keeps s ≡ false) × (q ≡ stopsAt begun s)
+  when-bad q e =
+      by-test (keeps s)
+      (λ h.
+      let k = judged-right h in
+      let z : _≡_ {A = ℕ} 0 1 = cc in
+      absurd (omega arith))
+      (λ h.
+      let k = judged-bad (stopsAt begun s) h refl in
+      (h, cc))
+
+-- two rules that say the same of a text and of its beginnings
+pub judged-same : (keeps begun keeps′ begun′ : List ℕ → Bool) (s : List ℕ) → keeps s ≡ keeps′ s → ((k : ℕ) → k ≤ length s → begun (take k s) ≡ begun′ (take k s))
+    → judgedBy keeps begun s ≡ judgedBy keeps′ begun′ s
+unfolding judgedBy
+judged-same keeps begun keeps′ begun′ s e h = rw (e, stops-same begun begun′ s h)
+
+-- the law for every rule whose beginnings can be tested
+pub judged-is : {keeps begun : List ℕ → Bool} → Beginnings keeps begun → begun [] ≡ true → JudgedIs keeps begun
+judged-is {keeps} {begun} v h s = (
+  (when-right keeps begun s, λ e. sym (judged-right keeps begun s e)),
+  λ q. (
+    λ e. let w = when-bad keeps begun s q e in rw (w .1) (stops-first v h s (w .0)),
+    λ f. by-test (keeps s) (λ e. absurd (not-both f e)) (λ e. sym (judged-bad keeps begun s q e (only-one f (stops-first v h s e)))),
+  ),
+)

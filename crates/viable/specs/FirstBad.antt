@@ -1,0 +1,41 @@
+-- Where a text is bad: the first byte after which no continuation keeps the rule. Document 02, K2.
+use Prim.Native.Nat.{ℕ, suc, _<_, _≤_}
+use mathlib.Core.Path.{_≡_}
+use mathlib.Core.Logic.{_⊎_, _↔_}
+use mathlib.Core.Bool.{Bool, true, false}
+use mathlib.Core.List.{List, [], _∷_, _++_}
+use lib.ListN.{length, take}
+use Rattle.base.specs.Choice.{pick}
+use Rattle.viable.specs.declared.Judged.{Judged}
+use Rattle.viable.specs.declared.Judged.the-variants.{Right, Bad}
+
+-- the bytes p have a continuation that keeps the rule
+abbrev pub Continues : (List ℕ → Type 0) → List ℕ → Type 0
+Continues Keeps p = (c : List ℕ) × Keeps (p ++ c)
+
+-- each beginning of up to q bytes has such a continuation; and the text ends there and does not keep the rule, or with byte q it has none any more
+pub record FirstBad (Keeps : List ℕ → Type 0) (s : List ℕ) (q : ℕ) : Type 0 where
+  pub upto : (k : ℕ) → k ≤ q → Continues Keeps (take k s)
+  pub then : ((q ≡ length s) × (Keeps s → ⊥)) ⊎ ((q < length s) × (Continues Keeps (take (suc q) s) → ⊥))
+
+-- the texts that pass a test
+abbrev pub Passes : (List ℕ → Bool) → List ℕ → Type 0
+Passes keeps s = keeps s ≡ true
+
+-- the first byte with which the text is no beginning any more, or else its length
+unfoldable pub stopsAt : (List ℕ → Bool) → List ℕ → ℕ
+stopsAt begun [] = 0
+stopsAt begun (b ∷ s) = pick (begun (b ∷ [])) (suc (stopsAt (λ p. begun (b ∷ p)) s)) 0
+
+abbrev pub rightOr : Bool → (Unit {0} → ℕ) → Judged
+rightOr true f = Right
+rightOr false f = Bad (f tt)
+
+-- the judgement of a text, by its rule and by a test of the rule's beginnings
+unfoldable pub judgedBy : (List ℕ → Bool) → (List ℕ → Bool) → List ℕ → Judged
+judgedBy keeps begun s = rightOr (keeps s) (λ _. stopsAt begun s)
+
+-- it is right of exactly the texts that keep the rule, and bad at q of exactly those whose first bad byte is q; so nobody has to believe the test of beginnings
+abbrev pub JudgedIs : (List ℕ → Bool) → (List ℕ → Bool) → Type 0
+JudgedIs keeps begun =
+    (s : List ℕ) → (judgedBy keeps begun s ≡ Right ↔ Passes keeps s) × ((q : ℕ) → judgedBy keeps begun s ≡ Bad q ↔ FirstBad (Passes keeps) s q)
