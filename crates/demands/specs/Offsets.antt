@@ -1,5 +1,5 @@
 -- Demand 1's second place (document 02, K2): where a text is bad, under each rule of texts. `FirstBad` of crate viable is its meaning: each beginning up to the offset has a
--- continuation that keeps the rule, and with the byte there it has none any more, or the text ends there too early.
+-- continuation in bytes that keeps the rule, and with the byte there it has none any more, or the text ends there too early.
 use Prim.Native.Nat.{ℕ, _+_, _≤_, _<_}
 use mathlib.Core.Path.{_≡_}
 use mathlib.Core.Logic.{_⊎_}

@@ -14,15 +14,19 @@ use Rattle.base.proofs.Tests.{both-no}
 use Rattle.utf8.specs.Utf8.{Range, Row, rows, followIn, follow, onSome, judge, utf8, begun, utf8Begun}
 use Rattle.utf8.specs.Strings.{GREATER, startsWith, startsWithAny, hasAny}
 use Rattle.utf8.specs.Forbidden.{notInLine, notInPayload, forbidden, keeps, keepsBegun}
-use Rattle.viable.proofs.FirstBad.{Beginnings}
+use Rattle.viable.specs.FirstBad.{Bytes}
+use Rattle.viable.proofs.FirstBad.{Beginnings, bytes-append}
 use Rattle.utf8.specs.declared.Rule.{Rule}
 use Rattle.utf8.specs.declared.Rule.the-variants.{Any, Line, Payload}
 use Rattle.utf8.proofs.Windows.{any-more}
 
 -- each range asks for bytes past ASCII, and for one at least
+abbrev asksFor : Range → Bool
+asksFor r = both (within 0x80 (r .1) (r .0)) (leb (r .1) 0xFF)
+
 abbrev asking : List Range → Bool
 asking [] = true
-asking (r ∷ rs) = both (within 0x80 (r .1) (r .0)) (asking rs)
+asking (r ∷ rs) = both (asksFor r) (asking rs)
 
 abbrev if-some : Option (List Range) → Bool
 if-some none = true
@@ -47,7 +51,11 @@ follows b = followed rows b refl
 -- bytes past ASCII
 abbrev pub High : List ℕ → Type 0
 High [] = Unit {0}
-High (b ∷ c) = (0x80 ≤ b) × High c
+High (b ∷ c) = (0x80 ≤ b) × (b < 256) × High c
+
+high-bytes : (c : List ℕ) → High c → Bytes c
+high-bytes [] h = tt
+high-bytes (b ∷ c) h = (h .1, high-bytes c (h .2))
 
 -- what the ranges ask for, the lowest bytes
 abbrev lows : List Range → List ℕ
@@ -58,11 +66,14 @@ judge-lows : (rs : List Range) → asking rs ≡ true → High (lows rs) × (jud
 unfolding judge within
 judge-lows [] h = (tt, refl)
 judge-lows (r ∷ rs) h =
-    let w = both-left (within 0x80 (r .1) (r .0)) (asking rs) h in
-    let t = judge-lows rs (both-right (within 0x80 (r .1) (r .0)) (asking rs) h) in
+    let v = both-left (asksFor r) (asking rs) h in
+    let w = both-left (within 0x80 (r .1) (r .0)) (leb (r .1) 0xFF) v in
+    let m = leb-true (r .1) 0xFF (both-right (within 0x80 (r .1) (r .0)) (leb (r .1) 0xFF) v) in
+    let t = judge-lows rs (both-right (asksFor r) (asking rs) h) in
     let a = leb-true 0x80 (r .0) (both-left (leb 0x80 (r .0)) (leb (r .0) (r .1)) w) in
     let z = both-right (leb 0x80 (r .0)) (leb (r .0) (r .1)) w in
-    ((a, t .0), rw (le-leb (r .0) (r .0) (omega arith), z) (t .1))
+    let y = leb-true (r .0) (r .1) z in
+    ((a, omega arith, t .0), rw (le-leb (r .0) (r .0) (omega arith), z) (t .1))
 
 pub both-pass : (a b : Bool) → a ≡ true → b ≡ true → both a b ≡ true
 both-pass true b h k = k
@@ -82,7 +93,7 @@ unfolding begun judge
 ended [] rs a h = let t = judge-lows rs a in (lows rs, t .0, t .1)
 ended (b ∷ p) [] a h = ended-some p (follow b) (follows b) (λ rs x y. ended p rs x y) h
 ended (b ∷ p) (r ∷ rs) a h =
-    let t = ended p rs (both-right (within 0x80 (r .1) (r .0)) (asking rs) a) (both-right (within (r .0) (r .1) b) (begun p rs) h) in
+    let t = ended p rs (both-right (asksFor r) (asking rs) a) (both-right (within (r .0) (r .1) b) (begun p rs) h) in
     (t .0, t .1, both-pass (within (r .0) (r .1) b) (judge (p ++ t .0) rs) (both-left (within (r .0) (r .1) b) (begun p rs) h) (t .2))
 
 on-some : {A : Type 0} (o : Option A) (f g : A → Bool) → ((a : A) → f a ≡ true → g a ≡ true) → onSome o f ≡ true → onSome o g ≡ true
@@ -119,20 +130,20 @@ module _ (safe fair : List ℕ → Bool)
   where
     more-high : (c p : List ℕ) → High c → fair p ≡ true → fair (p ++ c) ≡ true
     more-high [] p h o = rw (append-nil p) o
-    more-high (b ∷ c) p h o = rw (← append-snoc p b c) (more-high c (p ++ (b ∷ [])) (h .1) (more p b (h .0) o))
+    more-high (b ∷ c) p h o = rw (← append-snoc p b c) (more-high c (p ++ (b ∷ [])) (h .2) (more p b (h .0) o))
 
     -- some text goes on from p
-    pub goes-on : (p : List ℕ) → utf8Begun p ≡ true → fair p ≡ true → (c : List ℕ) × (utf8 (p ++ c) ≡ true) × (safe (p ++ c) ≡ true)
+    pub goes-on : (p : List ℕ) → utf8Begun p ≡ true → fair p ≡ true → (c : List ℕ) × Bytes c × (utf8 (p ++ c) ≡ true) × (safe (p ++ c) ≡ true)
     unfolding utf8 utf8Begun judge follow followIn rows within
     goes-on p u o =
         let t = ended p [] refl u in
-        (t .0 ++ letter, rw (← append-assoc p (t .0) letter) (judge-more (p ++ t .0) letter [] refl (t .2)), rw (← append-assoc p (t .0) letter) (stop (p ++ t .0) (more-high (t .0) p (t .1) o)))
+        (t .0 ++ letter, bytes-append (t .0) letter (high-bytes (t .0) (t .1)) (omega arith, tt), rw (← append-assoc p (t .0) letter) (judge-more (p ++ t .0) letter [] refl (t .2)), rw (← append-assoc p (t .0) letter) (stop (p ++ t .0) (more-high (t .0) p (t .1) o)))
 
     pub text-begins : ((p c : List ℕ) → safe (p ++ c) ≡ true → fair p ≡ true) → Beginnings (λ s. both (utf8 s) (safe s)) (λ p. both (utf8Begun p) (fair p))
     text-begins begins = record {
       continued = λ p h.
           let t = goes-on p (both-left (utf8Begun p) (fair p) h) (both-right (utf8Begun p) (fair p) h) in
-          (t .0, rw (t .1) (t .2));
+          (t .0, t .1, rw (t .2) (t .3));
       begins = λ p c h.
           rw (utf8-begins p c (both-left (utf8 (p ++ c)) (safe (p ++ c)) h)) (begins p c (both-right (utf8 (p ++ c)) (safe (p ++ c)) h));
     }
@@ -197,7 +208,7 @@ none-last rule p b h = any-last (forbidden rule) p b (past rule b h)
 
 pub utf8-begun : Beginnings utf8 utf8Begun
 utf8-begun = record {
-  continued = λ p h. let t = goes-on (λ _. true) (λ _. true) (λ p b l h. refl) (λ p h. refl) p h refl in (t .0, t .1);
+  continued = λ p h. let t = goes-on (λ _. true) (λ _. true) (λ p b l h. refl) (λ p h. refl) p h refl in (t .0, t .1, t .2);
   begins = utf8-begins;
 }
 

@@ -9,13 +9,21 @@ use native.Mathlib.Nat.{le-of-suc-le-suc, not-suc-le-zero}
 use lib.ListN.{length, take, drop, take-append-drop}
 use Rattle.base.specs.Choice.{pick}
 use Rattle.base.proofs.Choice.{by-test, true-false, either}
-use Rattle.viable.specs.FirstBad.{Continues, FirstBad, Passes, stopsAt, judgedBy, JudgedIs}
+use Rattle.viable.specs.FirstBad.{Bytes, Continues, FirstBad, Passes, stopsAt, judgedBy, JudgedIs}
 use Rattle.viable.specs.declared.Judged.the-variants.{Right, Bad}
 
 -- `begun` passes exactly the beginnings of the texts that pass `keeps`
 pub record Beginnings (keeps begun : List ℕ → Bool) : Type 0 where
   pub continued : (p : List ℕ) → begun p ≡ true → Continues (Passes keeps) p
   pub begins : (p c : List ℕ) → keeps (p ++ c) ≡ true → begun p ≡ true
+
+pub bytes-append : (c d : List ℕ) → Bytes c → Bytes d → Bytes (c ++ d)
+bytes-append [] d h k = k
+bytes-append (b ∷ c) d h k = (h .0, bytes-append c d (h .1) k)
+
+pub bytes-behind : (p c : List ℕ) → Bytes (p ++ c) → Bytes c
+bytes-behind [] c h = h
+bytes-behind (b ∷ p) c h = bytes-behind p c (h .1)
 
 -- ---- at most one
 
@@ -26,7 +34,7 @@ module _ {Keeps : List ℕ → Type 0} {s : List ℕ} where
   not-before : {q r : ℕ} → FirstBad Keeps s q → FirstBad Keeps s r → r ≤ q
   not-before {q} {r} f g =
       let l = within-text g in
-      either r q (λ h. h) (λ h. elim (f .then) [ inl a ↦ absurd (omega arith) | inr a ↦ absurd (a .1 (g .upto (suc q) h)) ])
+      either r q (λ h. h) (λ h. elim (f .then) [ inl a ↦ absurd (omega arith) | inr a ↦ let t = g .upto (suc q) h in absurd (a .1 (t .0) (t .2)) ])
 
   only-one : {q r : ℕ} → FirstBad Keeps s q → FirstBad Keeps s r → q ≡ r
   only-one {q} {r} f g =
@@ -37,16 +45,16 @@ module _ {Keeps : List ℕ → Type 0} {s : List ℕ} where
   -- and none in a text that keeps the rule
   not-both : {q : ℕ} → FirstBad Keeps s q → Keeps s → ⊥
   not-both {q} f k =
-      elim (f .then) [ inl a ↦ a .1 k | inr a ↦ a .1 (drop (suc q) s, rw (take-append-drop (suc q) s) k) ]
+      elim (f .then) [ inl a ↦ a .1 k | inr a ↦ a .1 (drop (suc q) s) (rw (take-append-drop (suc q) s) k) ]
 
 -- ---- where a text stops to be a beginning
 
 -- a byte further in
-later : {keeps : List ℕ → Bool} {b : ℕ} {s : List ℕ} {q : ℕ} → FirstBad (Passes (λ t. keeps (b ∷ t))) s q → FirstBad (Passes keeps) (b ∷ s) (suc q)
-later {keeps} {b} {s} {q} f = record { upto = up; then = elim (f .then) [ inl a ↦ inl (ap suc (a .0), a .1) | inr a ↦ inr (omega arith, a .1) ] }
+later : {keeps : List ℕ → Bool} {b : ℕ} {s : List ℕ} {q : ℕ} → Continues (Passes keeps) [] → FirstBad (Passes (λ t. keeps (b ∷ t))) s q → FirstBad (Passes keeps) (b ∷ s) (suc q)
+later {keeps} {b} {s} {q} z f = record { upto = up; then = elim (f .then) [ inl a ↦ inl (ap suc (a .0), a .1) | inr a ↦ inr (omega arith, a .1) ] }
   where
     up : (k : ℕ) → k ≤ suc q → Continues (Passes keeps) (take k (b ∷ s))
-    up zero h = let r = f .upto 0 (omega arith) in (b ∷ r .0, r .1)
+    up zero h = z
     up (suc k) h = f .upto k (omega arith)
 
 -- the beginnings that go on after the byte b
@@ -55,7 +63,7 @@ after b v = record { continued = λ p h. v .continued (b ∷ p) h; begins = λ p
 
 -- what begins a beginning is one
 pub closed : {keeps begun : List ℕ → Bool} → Beginnings keeps begun → (p c : List ℕ) → begun (p ++ c) ≡ true → begun p ≡ true
-closed v p c h = let r = v .continued (p ++ c) h in v .begins p (c ++ r .0) (rw (← append-assoc p c (r .0)) (r .1))
+closed v p c h = let r = v .continued (p ++ c) h in v .begins p (c ++ r .0) (rw (← append-assoc p c (r .0)) (r .2))
 
 front : {keeps begun : List ℕ → Bool} → Beginnings keeps begun → begun [] ≡ true → (s : List ℕ) (k : ℕ) → k ≤ 0 → Continues (Passes keeps) (take k s)
 front v h s zero l = v .continued [] h
@@ -67,8 +75,8 @@ unfolding stopsAt
 stops-first v h [] n = record { upto = front v h []; then = inl (refl, λ k. true-false _ k n) }
 stops-first {keeps} {begun} v h (b ∷ s) n =
     by-test (begun (b ∷ []))
-    (λ e. rw e (later (stops-first (after b v) e s n)))
-    (λ e. rw e (record { upto = front v h (b ∷ s); then = inr (omega arith, λ c. true-false (begun (b ∷ [])) (v .begins (b ∷ []) (c .0) (c .1)) e) }))
+    (λ e. rw e (later (v .continued [] h) (stops-first (after b v) e s n)))
+    (λ e. rw e (record { upto = front v h (b ∷ s); then = inr (omega arith, λ c k. true-false (begun (b ∷ [])) (v .begins (b ∷ []) c k) e) }))
 
 -- what a loop knows: the first q bytes are a beginning, one more are none; or all are one
 pub stops-here : {keeps begun : List ℕ → Bool} → Beginnings keeps begun → (s : List ℕ) (q : ℕ) → q < length s → begun (take q s) ≡ true → begun (take (suc q) s) ≡ false → stopsAt begun s ≡ q

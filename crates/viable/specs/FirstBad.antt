@@ -9,14 +9,22 @@ use Rattle.base.specs.Choice.{pick}
 use Rattle.viable.specs.declared.Judged.{Judged}
 use Rattle.viable.specs.declared.Judged.the-variants.{Right, Bad}
 
--- the bytes p have a continuation that keeps the rule
-abbrev pub Continues : (List ℕ → Type 0) → List ℕ → Type 0
-Continues Keeps p = (c : List ℕ) × Keeps (p ++ c)
+abbrev pub Bytes : List ℕ → Type 0
+Bytes [] = Unit {0}
+Bytes (b ∷ s) = (b < 256) × Bytes s
 
--- each beginning of up to q bytes has such a continuation; and the text ends there and does not keep the rule, or with byte q it has none any more
+-- p has a continuation, in bytes, that keeps the rule
+abbrev pub Continues : (List ℕ → Type 0) → List ℕ → Type 0
+Continues Keeps p = (c : List ℕ) × Bytes c × Keeps (p ++ c)
+
+-- p has none, whatever is appended
+abbrev pub Ends : (List ℕ → Type 0) → List ℕ → Type 0
+Ends Keeps p = (c : List ℕ) → Keeps (p ++ c) → ⊥
+
+-- each beginning of up to q bytes has a continuation that keeps the rule; and the text ends there and does not keep it, or with byte q it has none any more
 pub record FirstBad (Keeps : List ℕ → Type 0) (s : List ℕ) (q : ℕ) : Type 0 where
   pub upto : (k : ℕ) → k ≤ q → Continues Keeps (take k s)
-  pub then : ((q ≡ length s) × (Keeps s → ⊥)) ⊎ ((q < length s) × (Continues Keeps (take (suc q) s) → ⊥))
+  pub then : ((q ≡ length s) × (Keeps s → ⊥)) ⊎ ((q < length s) × Ends Keeps (take (suc q) s))
 
 -- the texts that pass a test
 abbrev pub Passes : (List ℕ → Bool) → List ℕ → Type 0
