@@ -38,7 +38,10 @@ enum {
 
 /* Why and where. Number 0 says that nothing is wrong. The place is a byte of a sample or an entry, or the index of a record or a sample.
    The offset says where a text is bad, counted from the text's start: at the first byte after which no continuation could be right, or at
-   the text's length where it ends too early. Of a record's texts the first bad one counts. Beside every number but 6 the offset is 0. */
+   the text's length where it ends too early. Beside every number but 6 the offset is 0.
+   Where to look for 6: in a sample or an entry at byte place + 8 + offset, behind the header of the box at the place; in a tx3g sample at byte
+   2 + offset. Of a record's texts the first bad one of identifier, settings and payload counts: captions_judge_identifier and _payload tell
+   which it is. In a track the place is the sample's index: captions_judge_sample of its bytes gives the box. */
 typedef struct CaptionsRefusal {
     uint32_t number;
     size_t place;

@@ -1,9 +1,8 @@
 -- The beginnings of 3GPP texts.
 use Prim.Native.Nat.{ℕ}
-use mathlib.Core.Path.{_≡_, refl, sym, _∙_, subst}
+use mathlib.Core.Path.{_≡_, refl, sym, ap, _∙_}
 use mathlib.Core.Bool.{Bool, true, false}
 use mathlib.Core.List.{List, [], _∷_, _++_}
-use native.Mathlib.Omega.{arith}
 use lib.ListN.{drop}
 use Rattle.base.specs.Choice.{one-of, within}
 use Rattle.base.proofs.Choice.{both-left, both-right, by-test, true-false}
@@ -13,19 +12,19 @@ use Rattle.utf8.proofs.Strings.{split}
 use Rattle.utf8.proofs.Begun.{both-pass, utf8-begins, utf8-begun}
 use Rattle.text.proofs.Begun.{one-begins}
 use Rattle.characters.specs.Characters.{isHigh, isLow, sameTest, utf16, utf16Begun, mark, tx3gText, tx3gBegun}
-use Rattle.viable.specs.FirstBad.{Bytes, Continues, Passes}
+use Rattle.viable.specs.FirstBad.{bytes, Continues, Passes}
 use Rattle.viable.proofs.FirstBad.{Beginnings, bytes-behind}
 
 -- the low surrogate that is due
-due-ends : (due : Bool) → (c : List ℕ) × Bytes c × (utf16 due c ≡ true)
-unfolding utf16 isHigh isLow within
-due-ends true = (0xDC ∷ 0x00 ∷ [], (omega arith, (omega arith, tt)), refl)
-due-ends false = ([], tt, refl)
+due-ends : (due : Bool) → (c : List ℕ) × (bytes c ≡ true) × (utf16 due c ≡ true)
+unfolding utf16 isHigh isLow within bytes
+due-ends true = (0xDC ∷ 0x00 ∷ [], refl, refl)
+due-ends false = ([], refl, refl)
 
-units-end : (s : List ℕ) (due : Bool) → utf16Begun due s ≡ true → (c : List ℕ) × Bytes c × (utf16 due (s ++ c) ≡ true)
-unfolding utf16 utf16Begun
+units-end : (s : List ℕ) (due : Bool) → utf16Begun due s ≡ true → (c : List ℕ) × (bytes c ≡ true) × (utf16 due (s ++ c) ≡ true)
+unfolding utf16 utf16Begun bytes
 units-end [] due h = due-ends due
-units-end (x ∷ []) due h = let t = due-ends (isHigh x) in (0x00 ∷ t .0, (omega arith, t .1), both-pass (sameTest (isLow x) due) (utf16 (isHigh x) (t .0)) h (t .2))
+units-end (x ∷ []) due h = let t = due-ends (isHigh x) in (0x00 ∷ t .0, t .1, both-pass (sameTest (isLow x) due) (utf16 (isHigh x) (t .0)) h (t .2))
 units-end (x ∷ y ∷ s) due h =
     let t = units-end s (isHigh x) (both-right (sameTest (isLow x) due) (utf16Begun (isHigh x) s) h) in
     (t .0, t .1, both-pass (sameTest (isLow x) due) (utf16 (isHigh x) (s ++ t .0)) (both-left (sameTest (isLow x) due) (utf16Begun (isHigh x) s) h) (t .2))
@@ -43,9 +42,9 @@ mark-itself : tx3gText mark ≡ true
 unfolding tx3gText mark startsWith utf16
 mark-itself = refl
 
-mark-bytes : Bytes mark
-unfolding mark
-mark-bytes = (omega arith, (omega arith, tt))
+mark-bytes : bytes mark ≡ true
+unfolding mark bytes
+mark-bytes = refl
 
 -- after the mark
 mark-on : (r : List ℕ) → utf16Begun false r ≡ true → Continues (Passes tx3gText) (mark ++ r)
@@ -93,7 +92,7 @@ three p f g h =
 pub tx3g-begun : Beginnings tx3gText tx3gBegun
 tx3g-begun = record {
   continued = λ p h. three p
-      (λ e. let t = split p mark e in (t .0, bytes-behind p (t .0) (subst Bytes (t .1) mark-bytes), rw (← t .1) mark-itself))
+      (λ e. let t = split p mark e in (t .0, bytes-behind p (t .0) (ap bytes (sym (t .1)) ∙ mark-bytes), rw (← t .1) mark-itself))
       (λ r q e. rw q (mark-on r (sym (begun-after r (rw q at e)) ∙ rw q at h)))
       (λ e f. let t = utf8-begun .continued p (sym (begun-other p e f) ∙ h) in (t .0, t .1, text-other (p ++ t .0) (other p (t .0) e f) ∙ t .2));
   begins = λ p c h. three p

@@ -54,8 +54,8 @@ pub count-right : (s : List ℕ) (n : ℕ) → Right ≡ judgedBy tx3gText tx3gB
 unfolding charactersOf
 count-right s n e q = ap Characters q ∙ ap (λ (j : Judged). countBy j (characterCount s)) e
 
-pub text-right : (s : List ℕ) (n : ℕ) → tx3gText s ≡ true → n ≡ characterCount s → Characters n ≡ charactersOf s
-text-right s n h e = count-right s n (judged-right tx3gText tx3gBegun s h) e
+pub right-counted : (s : List ℕ) (n : ℕ) → tx3gText s ≡ true → n ≡ characterCount s → Characters n ≡ charactersOf s
+right-counted s n h e = count-right s n (judged-right tx3gText tx3gBegun s h) e
 
 -- what is counted is a text
 counted-right : (j : Judged) (m n : ℕ) → countBy j m ≡ Characters n → j ≡ Right

@@ -17,7 +17,7 @@ use Rattle.base.proofs.Table.{at}
 use Rattle.utf8.specs.Utf8.{Range, Row, tail, rows, followIn, follow, onSome, judge, utf8}
 use Rattle.utf8.specs.Strings.{startsWith}
 use Rattle.characters.specs.Characters.{isTail, firsts, mark, tx3gText, characterCount, charactersOf}
-use Rattle.characters.proofs.Counts.{text-right}
+use Rattle.characters.proofs.Counts.{right-counted}
 use Rattle.characters.specs.declared.Counted.the-variants.{Characters}
 use Rattle.utf8.proofs.Ranges.{inside, below, above, in-range, sameAsked, same-asked}
 use Rattle.code_points.specs.CodePoints.{scalar, scalars, encode, joined, Encoded, Utf8Is}
@@ -352,4 +352,4 @@ utf8-is s = (points encode (λ xs. judge xs []) first (length s) s (omega arith)
 
 pub utf8-count : (cs : List ℕ) → scalars cs ≡ true → charactersOf (joined encode cs) ≡ Characters (length cs)
 unfolding tx3gText characterCount utf8
-utf8-count cs h = let r = encodings-right cs h in sym (text-right (joined encode cs) (length cs) (rw (r .2, r .0)) (rw (r .2, r .1)))
+utf8-count cs h = let r = encodings-right cs h in sym (right-counted (joined encode cs) (length cs) (rw (r .2, r .0)) (rw (r .2, r .1)))

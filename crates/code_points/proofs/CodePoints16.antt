@@ -11,13 +11,14 @@ use lib.Dec.{ltb, eqb}
 use lib.ListN.{length, drop}
 use Rattle.base.specs.Choice.{both, within}
 use Rattle.base.proofs.Choice.{both-left, both-right, true-false, either, by-test}
+use Rattle.viable.specs.FirstBad.{bytes}
 use Rattle.characters.specs.declared.Counted.the-variants.{Characters}
 use Rattle.characters.specs.Characters.{isHigh, isLow, sameTest, utf16, firstUnits, mark, tx3gText, characterCount, charactersOf}
-use Rattle.characters.proofs.Counts.{text-right, counted-text}
+use Rattle.characters.proofs.Counts.{right-counted, counted-text}
 use Rattle.characters.proofs.Begun.{text-marked, text-other}
 use Rattle.utf8.specs.Strings.{startsWith}
 use Rattle.utf8.proofs.Ranges.{inside, below, above, in-range}
-use Rattle.code_points.specs.CodePoints.{scalar, scalars, joined, unit, encode16, bytes, Utf16Is, CountIs, CountedIs}
+use Rattle.code_points.specs.CodePoints.{scalar, scalars, joined, unit, encode16, Utf16Is, CountIs, CountedIs}
 use Rattle.code_points.proofs.CodePoints.{scalar-low, scalar-high, scalar-cases, digits, First, points, utf8-count, utf8-is}
 
 -- the bytes of a character from the digits of its number
@@ -174,7 +175,7 @@ utf16-is s b = (λ u. points encode16 valid first (length s) s (omega arith) (va
 
 pub count-is : CountIs
 unfolding tx3gText characterCount mark startsWith
-count-is cs h = let r = encodings-right cs h in (utf8-count cs h, sym (text-right (mark ++ joined encode16 cs) (length cs) (r .0) (sym (r .1))))
+count-is cs h = let r = encodings-right cs h in (utf8-count cs h, sym (right-counted (mark ++ joined encode16 cs) (length cs) (r .0) (sym (r .1))))
 
 -- a text that begins with the mark
 behind-mark : (s : List ℕ) → startsWith mark s ≡ true → s ≡ mark ++ drop 2 s

@@ -5,10 +5,11 @@ use mathlib.Core.Path.{_≡_}
 use mathlib.Core.Logic.{_⊎_}
 use mathlib.Core.List.{List, [], _∷_, _++_}
 use mathlib.Core.Bool.{Bool, true, false, not}
-use lib.Dec.{leb, ltb}
+use lib.Dec.{leb}
 use lib.ListN.{length}
 use Rattle.base.specs.Choice.{pick, both, within}
 use Rattle.utf8.specs.Utf8.{utf8}
+use Rattle.viable.specs.FirstBad.{bytes}
 use Rattle.characters.specs.Characters.{utf16, mark, charactersOf}
 use Rattle.characters.specs.declared.Counted.the-variants.{Characters}
 
@@ -42,11 +43,6 @@ unit u = (u / 256) ∷ (u % 256) ∷ []
 
 unfoldable pub encode16 : ℕ → List ℕ
 encode16 c = pick (leb c 0xFFFF) (unit c) (unit (0xD800 + (c - 0x10000) / 1024) ++ unit (0xDC00 + (c - 0x10000) % 1024))
-
--- each is below 256
-unfoldable pub bytes : List ℕ → Bool
-bytes [] = true
-bytes (b ∷ s) = both (ltb b 256) (bytes s)
 
 -- s is the bytes of some characters
 abbrev pub Encoded : (ℕ → List ℕ) → List ℕ → Type 0

@@ -66,7 +66,7 @@ use Rattle.tx3g_modifiers.specs.Modifiers.{whole, modifierOf, nextModifier}
 use Rattle.tx3g_style.specs.declared.Styled.the-variants.{BadSample as SampleOf}
 use Rattle.tx3g_style.specs.Style.{inForce, stylesOf, styledBy, styleOf, faultOf}
 use Rattle.demands.specs.Offsets.{bodyAt, Inside, InSample, InEntry, InRecord, InTrack, InText, InTx3g, Never}
-use Rattle.demands.specs.Refusals.{InTable, Listed, packing, unpacking, counting, ofCue, ofModifier, RefusalsAre}
+use Rattle.demands.specs.Refusals.{InTable, Listed, packing, unpacking, ofCue, ofModifier, RefusalsAre}
 use Rattle.demands.proofs.Offsets.{offsets-are}
 
 -- ---- judgements
@@ -376,11 +376,11 @@ module _ (Says : ℕ → ℕ → Type 0) where
 
 -- ---- texts
 
-count-listed : (s : List ℕ) → Listed (InText s) (counting (charactersOf s))
+count-listed : (s : List ℕ) → Listed (InText s) (countedAt 0 (charactersOf s))
 unfolding charactersOf badText
 count-listed s = go (judgedBy tx3gText tx3gBegun s) refl
   where
-    go : (j : Judged) → judgedBy tx3gText tx3gBegun s ≡ j → Listed (InText s) (counting (countBy j (characterCount s)))
+    go : (j : Judged) → judgedBy tx3gText tx3gBegun s ≡ j → Listed (InText s) (countedAt 0 (countBy j (characterCount s)))
     go Right e = tt
     go (BadAt q) e = ((omega arith, omega arith), λ z. absurd (z refl), λ z. (refl, offsets-are .tx3g s .1 q .0 e))
 
@@ -524,18 +524,10 @@ unpack-listed scale table samples recordsRoom poolRoom =
 
 -- ---- `tx3g` samples
 
-counted-listed : (s : List ℕ) → Listed (InTx3g s) (countedAt 0 (counted s))
-unfolding counted charactersOf badText
-counted-listed s = go (judgedBy tx3gText tx3gBegun (part s 2 (textEnd s))) refl
-  where
-    go : (j : Judged) → judgedBy tx3gText tx3gBegun (part s 2 (textEnd s)) ≡ j → Listed (InTx3g s) (countedAt 0 (countBy j (characterCount (part s 2 (textEnd s)))))
-    go Right e = tt
-    go (BadAt q) e = ((omega arith, omega arith), λ z. absurd (z refl), λ z. (refl, offsets-are .tx3g (part s 2 (textEnd s)) .1 q .0 e))
-
 tx3g-sample-listed : (e s : List ℕ) → Listed (InTx3g s) (judgeTx3gSample e s)
-unfolding judgeTx3gSample judgeTx3gText judgeModifiers
+unfolding judgeTx3gSample judgeTx3gText judgeModifiers counted
 tx3g-sample-listed e s =
-    next (InTx3g s) (judgeTx3gText s) _ (more (InTx3g s) (ltb (length s) (textEnd s)) 1 0 _ refl (counted-listed s))
+    next (InTx3g s) (judgeTx3gText s) _ (more (InTx3g s) (ltb (length s) (textEnd s)) 1 0 _ refl (count-listed (part s 2 (textEnd s))))
     (modifiers-listed (InTx3g s) (fontsIn e (fontsOf e)) (charactersIn s) s (textEnd s))
 
 read-listed : (e s : List ℕ) → Listed (InTx3g s) (verdictOf (readSample e s))

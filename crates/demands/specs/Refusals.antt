@@ -7,9 +7,6 @@ use mathlib.Core.List.{List}
 use lib.ListN.{length}
 use Rattle.verdict.specs.declared.Verdict.{Verdict}
 use Rattle.verdict.specs.declared.Verdict.the-variants.{Fine, Refused}
-use Rattle.verdict.specs.Judgement.{badText}
-use Rattle.characters.specs.declared.Counted.{Counted}
-use Rattle.characters.specs.declared.Counted.the-variants.{Characters, Bad}
 use Rattle.characters.specs.Characters.{charactersOf}
 use Rattle.boxes.specs.Boxes.{stoppedBy, stepAt, boxesIn}
 use Rattle.wvtt.specs.Sample.{judgeSample}
@@ -27,7 +24,7 @@ use Rattle.unpack.specs.declared.Unpacked.{Unpacked}
 use Rattle.unpack.specs.declared.Unpacked.the-variants.{Done as Unpacks, Refused as NotUnpacked}
 use Rattle.unpack.specs.Unpacking.{unpackOf}
 use Rattle.tx3g_entry.specs.Entry.{judgeEntry as judgeTx3gEntry}
-use Rattle.tx3g_sample.specs.Sample.{readSample, verdictOf}
+use Rattle.tx3g_sample.specs.Sample.{countedAt, readSample, verdictOf}
 use Rattle.tx3g_modifiers.specs.declared.Held.{Held as Modifier}
 use Rattle.tx3g_modifiers.specs.declared.Held.the-variants.{One as HeldModifier, Refused as NoModifier, End as NoMoreModifiers}
 use Rattle.tx3g_modifiers.specs.Modifiers.{nextModifier}
@@ -61,14 +58,9 @@ ofModifier (HeldModifier m n) = Fine
 ofModifier (NoModifier r) = Refused r
 ofModifier NoMoreModifiers = Fine
 
--- a text whose characters cannot be counted is bad (6), at place 0
-abbrev pub counting : Counted → Verdict
-counting (Characters n) = Fine
-counting (Bad q) = Refused (badText 0 q)
-
 -- for every operation that refuses
 pub record RefusalsAre : Type 0 where
-  pub count : (s : List ℕ) → Listed (InText s) (counting (charactersOf s))
+  pub count : (s : List ℕ) → Listed (InText s) (countedAt 0 (charactersOf s))
   pub step : (s : List ℕ) (at end : ℕ) → Listed Never (stoppedBy (stepAt s at end))
   pub sample : (s : List ℕ) → Listed (InSample s) (judgeSample s)
   pub cue : (s : List ℕ) (from : ℕ) → Listed Never (ofCue (nextCue s (boxesIn s from (length s))))

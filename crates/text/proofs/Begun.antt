@@ -1,6 +1,6 @@
 -- The beginnings of texts under each rule, and where the texts are bad.
 use Prim.Native.Nat.{ℕ, zero, suc, _<_, _≤_}
-use mathlib.Core.Path.{_≡_, refl, sym, ap, _∙_, subst}
+use mathlib.Core.Path.{_≡_, refl, sym, ap, _∙_}
 use mathlib.Core.Bool.{Bool, true, false, not}
 use mathlib.Core.List.{List, [], _∷_, _++_, append-nil}
 use native.Mathlib.Omega.{arith}
@@ -21,7 +21,7 @@ use Rattle.utf8.proofs.Windows.{any-none, starts-more}
 use Rattle.utf8.proofs.Strings.{split}
 use Rattle.utf8.proofs.Keeps.{any-is}
 use Rattle.utf8.proofs.Begun.{letter, utf8-begins, utf8-begun, goes-on, text-begins, none-last, none-begins, keeps-begun}
-use Rattle.viable.specs.FirstBad.{Bytes, stopsAt, judgedBy}
+use Rattle.viable.specs.FirstBad.{bytes, stopsAt, judgedBy}
 use Rattle.viable.proofs.FirstBad.{Beginnings, bytes-behind, stops-here, stops-end, stops-same, judged-right, judged-bad, judged-same}
 use Rattle.text.specs.Rules.{identifierText, payloadText, labelText, webvtt, configurationText}
 use Rattle.text.specs.Beginnings.{identifierBegun, payloadBegun, labelBegun, configurationBegun, unended}
@@ -100,9 +100,9 @@ webvtt-itself : configurationText webvtt ≡ true
 unfolding configurationText webvtt startsWith endsLine endsIn utf8 judge follow followIn rows within
 webvtt-itself = refl
 
-webvtt-bytes : Bytes webvtt
-unfolding webvtt
-webvtt-bytes = (omega arith, (omega arith, (omega arith, (omega arith, (omega arith, (omega arith, tt))))))
+webvtt-bytes : bytes webvtt ≡ true
+unfolding webvtt bytes
+webvtt-bytes = refl
 
 webvtt-utf8 : utf8 webvtt ≡ true
 unfolding webvtt utf8 judge follow followIn rows within
@@ -115,7 +115,7 @@ configuration-begun = record {
       let u = both-right (one-of (startsWith p webvtt) (startsWith webvtt p)) (utf8Begun p) h in
       let o = both-left (one-of (startsWith p webvtt) (startsWith webvtt p)) (utf8Begun p) h in
       by-test (startsWith p webvtt)
-      (λ e. let t = split p webvtt e in (t .0, bytes-behind p (t .0) (subst Bytes (t .1) webvtt-bytes), rw (← t .1) webvtt-itself))
+      (λ e. let t = split p webvtt e in (t .0, bytes-behind p (t .0) (ap bytes (sym (t .1)) ∙ webvtt-bytes), rw (← t .1) webvtt-itself))
       (λ e.
       let w : startsWith webvtt p ≡ true = rw e at o in
       let t = goes-on (λ s. both (not (endsLine s)) (startsWith webvtt s)) (startsWith webvtt) (λ q b l k. starts-more webvtt q (b ∷ []) k) (λ q k. rw (letter-last q) (starts-more webvtt q letter k)) p u w in

@@ -5,7 +5,7 @@ use mathlib.Core.Bool.{Bool, true, false, not}
 use mathlib.Core.List.{List, [], _∷_, _++_, append-assoc, append-nil}
 use mathlib.Core.Option.{Option, none, some}
 use native.Mathlib.Omega.{arith}
-use borrow.Author.Tests.{leb-true, le-leb, ne-eqb, not-true}
+use borrow.Author.Tests.{leb-true, le-leb, lt-ltb, ne-eqb, not-true}
 use lib.Dec.{eqb, leb}
 use lib.Seq.{append-snoc}
 use Rattle.base.specs.Choice.{both, one-of, within}
@@ -14,7 +14,7 @@ use Rattle.base.proofs.Tests.{both-no}
 use Rattle.utf8.specs.Utf8.{Range, Row, rows, followIn, follow, onSome, judge, utf8, begun, utf8Begun}
 use Rattle.utf8.specs.Strings.{GREATER, startsWith, startsWithAny, hasAny}
 use Rattle.utf8.specs.Forbidden.{notInLine, notInPayload, forbidden, keeps, keepsBegun}
-use Rattle.viable.specs.FirstBad.{Bytes}
+use Rattle.viable.specs.FirstBad.{bytes}
 use Rattle.viable.proofs.FirstBad.{Beginnings, bytes-append}
 use Rattle.utf8.specs.declared.Rule.{Rule}
 use Rattle.utf8.specs.declared.Rule.the-variants.{Any, Line, Payload}
@@ -53,9 +53,10 @@ abbrev pub High : List ℕ → Type 0
 High [] = Unit {0}
 High (b ∷ c) = (0x80 ≤ b) × (b < 256) × High c
 
-high-bytes : (c : List ℕ) → High c → Bytes c
-high-bytes [] h = tt
-high-bytes (b ∷ c) h = (h .1, high-bytes c (h .2))
+high-bytes : (c : List ℕ) → High c → bytes c ≡ true
+unfolding bytes
+high-bytes [] h = refl
+high-bytes (b ∷ c) h = rw (lt-ltb b 256 (h .1)) (high-bytes c (h .2))
 
 -- what the ranges ask for, the lowest bytes
 abbrev lows : List Range → List ℕ
@@ -133,11 +134,11 @@ module _ (safe fair : List ℕ → Bool)
     more-high (b ∷ c) p h o = rw (← append-snoc p b c) (more-high c (p ++ (b ∷ [])) (h .2) (more p b (h .0) o))
 
     -- some text goes on from p
-    pub goes-on : (p : List ℕ) → utf8Begun p ≡ true → fair p ≡ true → (c : List ℕ) × Bytes c × (utf8 (p ++ c) ≡ true) × (safe (p ++ c) ≡ true)
-    unfolding utf8 utf8Begun judge follow followIn rows within
+    pub goes-on : (p : List ℕ) → utf8Begun p ≡ true → fair p ≡ true → (c : List ℕ) × (bytes c ≡ true) × (utf8 (p ++ c) ≡ true) × (safe (p ++ c) ≡ true)
+    unfolding utf8 utf8Begun judge follow followIn rows within bytes
     goes-on p u o =
         let t = ended p [] refl u in
-        (t .0 ++ letter, bytes-append (t .0) letter (high-bytes (t .0) (t .1)) (omega arith, tt), rw (← append-assoc p (t .0) letter) (judge-more (p ++ t .0) letter [] refl (t .2)), rw (← append-assoc p (t .0) letter) (stop (p ++ t .0) (more-high (t .0) p (t .1) o)))
+        (t .0 ++ letter, bytes-append (t .0) letter (high-bytes (t .0) (t .1)) refl, rw (← append-assoc p (t .0) letter) (judge-more (p ++ t .0) letter [] refl (t .2)), rw (← append-assoc p (t .0) letter) (stop (p ++ t .0) (more-high (t .0) p (t .1) o)))
 
     pub text-begins : ((p c : List ℕ) → safe (p ++ c) ≡ true → fair p ≡ true) → Beginnings (λ s. both (utf8 s) (safe s)) (λ p. both (utf8Begun p) (fair p))
     text-begins begins = record {

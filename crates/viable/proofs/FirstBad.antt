@@ -6,10 +6,11 @@ use mathlib.Core.Bool.{Bool, true, false}
 use mathlib.Core.List.{List, [], _∷_, _++_, append-assoc}
 use native.Mathlib.Omega.{arith}
 use native.Mathlib.Nat.{le-of-suc-le-suc, not-suc-le-zero}
+use lib.Dec.{ltb}
 use lib.ListN.{length, take, drop, take-append-drop}
 use Rattle.base.specs.Choice.{pick}
-use Rattle.base.proofs.Choice.{by-test, true-false, either}
-use Rattle.viable.specs.FirstBad.{Bytes, Continues, FirstBad, Passes, stopsAt, judgedBy, JudgedIs}
+use Rattle.base.proofs.Choice.{both-left, both-right, by-test, true-false, either}
+use Rattle.viable.specs.FirstBad.{bytes, Continues, FirstBad, Passes, stopsAt, judgedBy, JudgedIs}
 use Rattle.viable.specs.declared.Judged.the-variants.{Right, Bad}
 
 -- `begun` passes exactly the beginnings of the texts that pass `keeps`
@@ -17,13 +18,15 @@ pub record Beginnings (keeps begun : List ℕ → Bool) : Type 0 where
   pub continued : (p : List ℕ) → begun p ≡ true → Continues (Passes keeps) p
   pub begins : (p c : List ℕ) → keeps (p ++ c) ≡ true → begun p ≡ true
 
-pub bytes-append : (c d : List ℕ) → Bytes c → Bytes d → Bytes (c ++ d)
+pub bytes-append : (c d : List ℕ) → bytes c ≡ true → bytes d ≡ true → bytes (c ++ d) ≡ true
+unfolding bytes
 bytes-append [] d h k = k
-bytes-append (b ∷ c) d h k = (h .0, bytes-append c d (h .1) k)
+bytes-append (b ∷ c) d h k = rw (both-left (ltb b 256) (bytes c) h) (bytes-append c d (both-right (ltb b 256) (bytes c) h) k)
 
-pub bytes-behind : (p c : List ℕ) → Bytes (p ++ c) → Bytes c
+pub bytes-behind : (p c : List ℕ) → bytes (p ++ c) ≡ true → bytes c ≡ true
+unfolding bytes
 bytes-behind [] c h = h
-bytes-behind (b ∷ p) c h = bytes-behind p c (h .1)
+bytes-behind (b ∷ p) c h = bytes-behind p c (both-right (ltb b 256) (bytes (p ++ c)) h)
 
 -- ---- at most one
 

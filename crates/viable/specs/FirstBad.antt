@@ -4,18 +4,20 @@ use mathlib.Core.Path.{_≡_}
 use mathlib.Core.Logic.{_⊎_, _↔_}
 use mathlib.Core.Bool.{Bool, true, false}
 use mathlib.Core.List.{List, [], _∷_, _++_}
+use lib.Dec.{ltb}
 use lib.ListN.{length, take}
-use Rattle.base.specs.Choice.{pick}
+use Rattle.base.specs.Choice.{pick, both}
 use Rattle.viable.specs.declared.Judged.{Judged}
 use Rattle.viable.specs.declared.Judged.the-variants.{Right, Bad}
 
-abbrev pub Bytes : List ℕ → Type 0
-Bytes [] = Unit {0}
-Bytes (b ∷ s) = (b < 256) × Bytes s
+-- each number is a byte
+unfoldable pub bytes : List ℕ → Bool
+bytes [] = true
+bytes (b ∷ s) = both (ltb b 256) (bytes s)
 
 -- p has a continuation, in bytes, that keeps the rule
 abbrev pub Continues : (List ℕ → Type 0) → List ℕ → Type 0
-Continues Keeps p = (c : List ℕ) × Bytes c × Keeps (p ++ c)
+Continues Keeps p = (c : List ℕ) × (bytes c ≡ true) × Keeps (p ++ c)
 
 -- p has none, whatever is appended
 abbrev pub Ends : (List ℕ → Type 0) → List ℕ → Type 0

@@ -93,8 +93,17 @@ pub struct Refusal {
     /// A byte of a sample or an entry, or the index of a record or a sample.
     pub place: usize,
     /// Where a bad text is bad, from the text's start: the first byte after which no
-    /// continuation could be right, or the text's length where it ends too early. Of a record's
-    /// texts the first bad one counts. 0 for every other reason.
+    /// continuation could be right, or the text's length where it ends too early; 0 for every
+    /// other reason.
+    ///
+    /// In a sample or an entry that is byte `place + 8 + offset`, behind the header of the box
+    /// at the place; in a `tx3g` sample byte `2 + offset`. Of a record's texts the first bad one
+    /// of identifier, settings and payload counts, which [`judge_identifier`] and
+    /// [`judge_payload`] tell. In a track [`judge_sample`] of the sample gives the box.
+    ///
+    /// [`judge_identifier`]: crate::judge_identifier
+    /// [`judge_payload`]: crate::judge_payload
+    /// [`judge_sample`]: crate::judge_sample
     pub offset: usize,
 }
 
