@@ -1,8 +1,11 @@
-/* WebVTT (wvtt) and 3GPP text (tx3g) samples and sample entries, cue lists and tracks.
+/* Captions in MP4 tracks: WebVTT (wvtt) and 3GPP text (tx3g) samples and sample entries, cue lists and tracks.
  *
- * Bytes are lent as a pointer, which is not null even where the length is 0, and a length. An output overlaps nothing else that is lent.
- * Every refusal gives a number, a place and an offset, and writes nothing; on success bytes past the result keep their content. What an answer
- * leaves free is 0. Nothing is allocated, and nothing is kept after a call. */
+ * Bytes are lent as a pointer and a length; where the length is 0 the pointer may be NULL. A pointer is good for its length while the call runs.
+ * Inputs may overlap one another; an output overlaps nothing else that is lent. Every function is total: any bytes, any numbers and any lent
+ * lengths get an answer. Every refusal gives a number, a place and an offset, and writes nothing; on success bytes past the result keep their
+ * content. What an answer leaves free is 0. Nothing is allocated, nothing is kept after a call, and calls may run at the same time.
+ *
+ * docs/FORMATS.md has the bytes of records, pools, tables, samples and entries, and what each place means. */
 #ifndef CAPTIONS_H
 #define CAPTIONS_H
 
@@ -14,7 +17,12 @@
 extern "C" {
 #endif
 
-/* The numbers given back. */
+#define CAPTIONS_VERSION_MAJOR 0
+#define CAPTIONS_VERSION_MINOR 2
+#define CAPTIONS_VERSION_PATCH 0
+#define CAPTIONS_VERSION "0.2.0"
+
+/* The numbers given back; captions_reason says each in a few words. */
 enum {
     CAPTIONS_DONE = 0,
     CAPTIONS_BYTES_MISSING = 1, /* header, body, record, texts past the pool, sample past the bytes */
@@ -36,22 +44,61 @@ enum {
     CAPTIONS_NO_ID = 17         /* a cue without ID, in unpacking */
 };
 
+/* Limits (docs/FORMATS.md). */
+#define CAPTIONS_RECORD_BYTES 24        /* a cue record */
+#define CAPTIONS_ROW_BYTES 8            /* a record of a sample table */
+#define CAPTIONS_MOST_CUES 1024         /* in a list */
+#define CAPTIONS_MOST_SAMPLES 65536     /* in a track */
+#define CAPTIONS_LARGEST_ID 2147483647u /* of a cue */
+#define CAPTIONS_LONGEST_LINE 255       /* an identifier or settings, in bytes */
+#define CAPTIONS_LONGEST_PAYLOAD 4095   /* in bytes */
+#define CAPTIONS_LARGEST_SCALE 1000000  /* ticks a second */
+#define CAPTIONS_LARGEST_MS 359999999   /* 99:59:59.999 */
+
 /* Why and where. Number 0 says that nothing is wrong. The place is a byte of a sample or an entry, or the index of a record or a sample.
    The offset says where a text is bad, counted from the text's start: at the first byte after which no continuation could be right, or at
    the text's length where it ends too early. Beside every number but 6 the offset is 0.
    Where to look for 6: in a sample or an entry at byte place + 8 + offset, behind the header of the box at the place; in a tx3g sample at byte
-   2 + offset. Of a record's texts the first bad one of identifier, settings and payload counts: captions_judge_identifier and _payload tell
-   which it is. In a track the place is the sample's index: captions_judge_sample of its bytes gives the box. */
+   2 + offset. Of a record's texts the first bad one of identifier, settings and payload counts: captions_wvtt_judge_identifier and _payload
+   tell which it is. In a track the place is the sample's index: captions_wvtt_judge_sample of its bytes gives the box. */
 typedef struct CaptionsRefusal {
     uint32_t number;
     size_t place;
     size_t offset;
 } CaptionsRefusal;
 
-typedef struct CaptionsCount {
-    CaptionsRefusal refusal;
-    size_t characters;
-} CaptionsCount;
+/* Who is at fault, where an operation reads two things. */
+enum { CAPTIONS_NOBODY = 0, CAPTIONS_ENTRY = 1, CAPTIONS_SAMPLE = 2, CAPTIONS_LIST = 3, CAPTIONS_TRACK = 4 };
+
+/* A refusal's number in a few words; of a number that is not in the table, "unknown". */
+static inline const char *captions_reason(uint32_t number) {
+    static const char *const reasons[] = {
+        "done",
+        "bytes missing",
+        "a size that does not fit, or another entry type",
+        "a kind twice",
+        "a box or every cue missing",
+        "vtte beside another",
+        "bad text",
+        "bad range or order",
+        "a value not allowed",
+        "a limit passed",
+        "scale, timeline or time not allowed",
+        "starts fall, or cues out of order",
+        "an ID twice",
+        "an ID after a gap",
+        "one ID, other texts",
+        "output too short",
+        "the track differs",
+        "a cue without ID",
+    };
+    return number < sizeof reasons / sizeof *reasons ? reasons[number] : "unknown";
+}
+
+/* ---- Text, boxes, times ---- */
+
+/* Whether a text is UTF-8 (RFC 3629). 6 for bad text, place 0. */
+CaptionsRefusal captions_judge_utf8(const uint8_t *text, size_t text_len);
 
 /* A box, a refusal, or at the end neither: number 0 and nothing found. */
 typedef struct CaptionsStep {
@@ -62,32 +109,6 @@ typedef struct CaptionsStep {
     size_t next;   /* where it ends and the next box begins */
 } CaptionsStep;
 
-/* A cue, a refusal, or at the end neither: number 0 and nothing found. A cue's texts go from a byte of the sample to before another; a text
-   that is not there is empty. */
-typedef struct CaptionsCue {
-    CaptionsRefusal refusal;
-    bool found;
-    bool named; /* whether it has an ID */
-    uint32_t id;
-    size_t identifierfrom;
-    size_t identifierend;
-    size_t settingsfrom;
-    size_t settingsend;
-    size_t payloadfrom;
-    size_t payloadend;
-    size_t next; /* from where to look for the next cue */
-} CaptionsCue;
-
-/* Text: UTF-8; an identifier or settings; a payload; a vttC body; a vlab body. 6 for bad text, place 0. Lengths are not judged. */
-CaptionsRefusal captions_judge_utf8(const uint8_t *text, size_t text_len);
-CaptionsRefusal captions_judge_identifier(const uint8_t *text, size_t text_len);
-CaptionsRefusal captions_judge_payload(const uint8_t *text, size_t text_len);
-CaptionsRefusal captions_judge_configuration(const uint8_t *text, size_t text_len);
-CaptionsRefusal captions_judge_label(const uint8_t *text, size_t text_len);
-
-/* The characters of a tx3g text, UTF-8 or UTF-16 after FE FF; 6 for bad text, place 0. */
-CaptionsCount captions_count_characters(const uint8_t *text, size_t text_len);
-
 /* The box at `at` in a container that ends with the bytes. */
 CaptionsStep captions_step(const uint8_t *bytes, size_t bytes_len, size_t at);
 
@@ -95,60 +116,184 @@ CaptionsStep captions_step(const uint8_t *bytes, size_t bytes_len, size_t at);
 uint64_t captions_tick(uint32_t scale, uint32_t ms);
 uint64_t captions_ms(uint32_t scale, uint64_t tick);
 
-/* A WebVTT sample; and its first cue from `from` on: 0, or the `next` of the cue before. The walk gives 1 or 2 for a bad header
-   before the cue or among its boxes, and judges nothing else: of a sample that captions_judge_sample refuses for another reason, the last
-   box of a kind counts, and a vsid that is not 4 bytes counts as none. */
-CaptionsRefusal captions_judge_sample(const uint8_t *sample, size_t sample_len);
-CaptionsCue captions_next_cue(const uint8_t *sample, size_t sample_len, size_t from);
+/* ---- WebVTT: texts and samples ---- */
 
-CaptionsRefusal captions_judge_wvtt_entry(const uint8_t *entry, size_t entry_len);
+/* An identifier or settings; a payload; a vttC body; a vlab body. 6 for bad text, place 0. Lengths are not judged. */
+CaptionsRefusal captions_wvtt_judge_identifier(const uint8_t *text, size_t text_len);
+CaptionsRefusal captions_wvtt_judge_payload(const uint8_t *text, size_t text_len);
+CaptionsRefusal captions_wvtt_judge_configuration(const uint8_t *text, size_t text_len);
+CaptionsRefusal captions_wvtt_judge_label(const uint8_t *text, size_t text_len);
 
-/* A cue list: 24-byte records, and the pool of their texts, on a timeline of t ms. */
+/* A WebVTT sample; the place is a byte of it. */
+CaptionsRefusal captions_wvtt_judge_sample(const uint8_t *sample, size_t sample_len);
+
+/* A cue, a refusal, or at the end neither: number 0 and nothing found. A cue's texts go from a byte of the sample to before another; a text
+   that is not there is empty. */
+typedef struct CaptionsCue {
+    CaptionsRefusal refusal;
+    bool found;
+    bool named; /* whether it has an ID */
+    uint32_t id;
+    size_t identifier_from;
+    size_t identifier_end;
+    size_t settings_from;
+    size_t settings_end;
+    size_t payload_from;
+    size_t payload_end;
+    size_t next; /* from where to look for the next cue */
+} CaptionsCue;
+
+/* The first cue of a sample from `from` on: 0, or the `next` of the cue before. The walk gives 1 or 2 for a bad header before the cue or among
+   its boxes, and judges nothing else: of a sample that captions_wvtt_judge_sample refuses for another reason, the last box of a kind counts,
+   and a vsid that is not 4 bytes counts as none. */
+CaptionsCue captions_wvtt_next_cue(const uint8_t *sample, size_t sample_len, size_t from);
+
+/* ---- WebVTT: sample entries ---- */
+
+/* The configuration and the label stand from a byte of the entry to before another; where there is no label, both are 0. */
+typedef struct CaptionsWvttEntry {
+    CaptionsRefusal refusal;
+    uint32_t data_reference_index;
+    bool labelled; /* whether it has a vlab */
+    size_t configuration_from;
+    size_t configuration_end;
+    size_t label_from;
+    size_t label_end;
+} CaptionsWvttEntry;
+
+/* Judges a wvtt entry and says where its texts stand; the place of a refusal is a byte of the entry. */
+CaptionsWvttEntry captions_wvtt_read_entry(const uint8_t *entry, size_t entry_len);
+
+typedef struct CaptionsWritten {
+    CaptionsRefusal refusal;
+    size_t bytes;
+} CaptionsWritten;
+
+/* Writes a wvtt entry with a configuration, a label if `labelled`, and a data reference index; reading it gives them back. Refused: 9, place 0, if
+   its size does not fit 4 bytes; 6 for the configuration (place 0) or the label (place 1); last 15, place 0. Where not `labelled`, the label's
+   bytes are not looked at. The room is the length it needs, or the same refusal but for 15. A packed track holds a vsid in every cue, so the
+   entry beside it needs a label. */
+CaptionsWritten captions_wvtt_entry_room(const uint8_t *configuration, size_t configuration_len, bool labelled, const uint8_t *label,
+                                         size_t label_len);
+CaptionsWritten captions_wvtt_write_entry(const uint8_t *configuration, size_t configuration_len, bool labelled, const uint8_t *label,
+                                          size_t label_len, uint16_t data_reference_index, uint8_t *entry, size_t entry_len);
+
+/* ---- WebVTT: cue lists and tracks ---- */
+
+/* A cue list: 24-byte records, and the pool of their texts, on a timeline of t ms; the place is a record's index. */
 CaptionsRefusal captions_judge_list(uint32_t scale, uint32_t t, const uint8_t *records, size_t records_len, const uint8_t *pool,
                                     size_t pool_len);
 
-/* A track: 8-byte table records, and the samples back to back. */
-CaptionsRefusal captions_judge_track(const uint8_t *table, size_t table_len, const uint8_t *samples, size_t samples_len);
+/* A track: 8-byte table records, and the samples back to back; the place is a sample's index. */
+CaptionsRefusal captions_wvtt_judge_track(const uint8_t *table, size_t table_len, const uint8_t *samples, size_t samples_len);
 
 typedef struct CaptionsPacked {
     CaptionsRefusal refusal;
     size_t samples; /* the number of samples */
-    size_t tablebytes;
-    size_t samplebytes;
+    size_t table_bytes;
+    size_t sample_bytes;
 } CaptionsPacked;
 
-/* Packs a cue list into a table and samples; last 15, place 0 for the table and 1 for the samples. */
-CaptionsPacked captions_pack(uint32_t scale, uint32_t t, const uint8_t *records, size_t records_len, const uint8_t *pool, size_t pool_len,
-                             uint8_t *table, size_t table_len, uint8_t *samples, size_t samples_len);
+/* Packs a cue list into a table and samples; last 15, place 0 for the table and 1 for the samples. The room is what packing answers where there
+   is room: the lengths it needs, or its refusal. */
+CaptionsPacked captions_wvtt_pack_room(uint32_t scale, uint32_t t, const uint8_t *records, size_t records_len, const uint8_t *pool,
+                                       size_t pool_len);
+CaptionsPacked captions_wvtt_pack(uint32_t scale, uint32_t t, const uint8_t *records, size_t records_len, const uint8_t *pool,
+                                  size_t pool_len, uint8_t *table, size_t table_len, uint8_t *samples, size_t samples_len);
 
 typedef struct CaptionsUnpacked {
     CaptionsRefusal refusal;
-    size_t recordbytes;
-    size_t poolbytes;
+    size_t record_bytes;
+    size_t pool_bytes;
     uint32_t t; /* in ms */
 } CaptionsUnpacked;
 
-/* Unpacks a track into a cue list; last 15, place 0 for the records and 1 for the pool. */
-CaptionsUnpacked captions_unpack(uint32_t scale, const uint8_t *table, size_t table_len, const uint8_t *samples, size_t samples_len,
-                                 uint8_t *records, size_t records_len, uint8_t *pool, size_t pool_len);
+/* Unpacks a track into a cue list; last 15, place 0 for the records and 1 for the pool. The room is what unpacking answers where there is room.
+   Both take 80 KiB of stack. */
+CaptionsUnpacked captions_wvtt_unpack_room(uint32_t scale, const uint8_t *table, size_t table_len, const uint8_t *samples,
+                                           size_t samples_len);
+CaptionsUnpacked captions_wvtt_unpack(uint32_t scale, const uint8_t *table, size_t table_len, const uint8_t *samples, size_t samples_len,
+                                      uint8_t *records, size_t records_len, uint8_t *pool, size_t pool_len);
 
-/* Whether a track shows the list's cues at every tick: 16 with the first wrong sample, or the sample count where it ends early. */
-CaptionsRefusal captions_check(uint32_t scale, uint32_t t, const uint8_t *records, size_t records_len, const uint8_t *pool,
-                               size_t pool_len, const uint8_t *table, size_t table_len, const uint8_t *samples, size_t samples_len);
-
-/* Who is at fault. */
-enum { CAPTIONS_NOBODY = 0, CAPTIONS_ENTRY = 1, CAPTIONS_SAMPLE = 2 };
-
-typedef struct CaptionsTx3g {
+typedef struct CaptionsChecked {
     CaptionsRefusal refusal;
-    uint32_t who;
+    uint32_t who; /* CAPTIONS_LIST, scale and t among it: the place is a record; CAPTIONS_TRACK: it is a sample */
+} CaptionsChecked;
+
+/* Whether a track shows the list's cues at every tick: the list as packing judges it, the track, then 16 with the first wrong sample, or the
+   sample count where the track ends early. A cue without vsid is a wrong cue. */
+CaptionsChecked captions_wvtt_check(uint32_t scale, uint32_t t, const uint8_t *records, size_t records_len, const uint8_t *pool,
+                                    size_t pool_len, const uint8_t *table, size_t table_len, const uint8_t *samples, size_t samples_len);
+
+/* ---- 3GPP text: entries ---- */
+
+typedef struct CaptionsTx3gEntry {
+    CaptionsRefusal refusal;
+    uint32_t data_reference_index;
+    uint32_t display_flags;
+    int32_t horizontal; /* justification: -1, 0 or 1 */
+    int32_t vertical;
+    uint32_t background_red;
+    uint32_t background_green;
+    uint32_t background_blue;
+    uint32_t background_alpha;
+    int32_t top; /* the default text box */
+    int32_t left;
+    int32_t bottom;
+    int32_t right;
+    uint32_t font; /* the default style */
+    uint32_t face; /* 1 bold, 2 italic, 4 underlined */
+    uint32_t size;
+    uint32_t red;
+    uint32_t green;
+    uint32_t blue;
+    uint32_t alpha;
+    size_t fonts;      /* how many */
+    size_t fonts_from; /* where the first stands */
+} CaptionsTx3gEntry;
+
+/* Judges a tx3g entry and reads it; the place of a refusal is a byte of the entry. */
+CaptionsTx3gEntry captions_tx3g_read_entry(const uint8_t *entry, size_t entry_len);
+
+typedef struct CaptionsFont {
+    bool found; /* whether its bytes are there */
+    uint32_t id;
+    size_t name_from;
+    size_t name_end; /* where the next font stands */
+} CaptionsFont;
+
+/* The font that stands at a byte of an entry: `fonts_from`, or the `name_end` of the font before, `fonts` times. */
+CaptionsFont captions_tx3g_font_at(const uint8_t *entry, size_t entry_len, size_t at);
+
+/* ---- 3GPP text: samples ---- */
+
+typedef struct CaptionsCount {
+    CaptionsRefusal refusal;
     size_t characters;
-} CaptionsTx3g;
+} CaptionsCount;
+
+/* The characters of a tx3g text, UTF-8, or UTF-16 after FE FF; 6 for bad text, place 0. */
+CaptionsCount captions_tx3g_count_characters(const uint8_t *text, size_t text_len);
+
+typedef struct CaptionsTx3gSample {
+    CaptionsRefusal refusal;
+    uint32_t who; /* CAPTIONS_ENTRY or CAPTIONS_SAMPLE */
+    size_t characters;
+    bool utf16;       /* the text is UTF-16, big-endian; else UTF-8 */
+    size_t text_from; /* the text, without the mark FE FF of UTF-16 */
+    size_t text_end;
+    size_t modifiers;   /* where the modifier boxes begin */
+    size_t styles;      /* how many styles there are */
+    size_t styles_from; /* where the first stands; 0 where there is no styl */
+} CaptionsTx3gSample;
+
+/* Judges an entry, then a sample, and reads the sample. */
+CaptionsTx3gSample captions_tx3g_read_sample(const uint8_t *entry, size_t entry_len, const uint8_t *sample, size_t sample_len);
 
 typedef struct CaptionsStyle {
     CaptionsRefusal refusal;
     uint32_t who;
-    uint32_t start;
+    uint32_t start; /* as in the styl record; 0 and 0 of the default style */
     uint32_t end;
     uint32_t font;
     uint32_t face;
@@ -159,13 +304,44 @@ typedef struct CaptionsStyle {
     uint32_t alpha;
 } CaptionsStyle;
 
-/* The eight bytes stand at the offset of the sample or else of the entry. */
+/* The style of character k: the entry is judged first, then the sample, then k (7, the sample's, place 0). For a whole text walk its runs. */
+CaptionsStyle captions_tx3g_style(const uint8_t *entry, size_t entry_len, const uint8_t *sample, size_t sample_len, size_t k);
+
+/* Characters of one style, from `from` to before `end`; or at the end of the text nothing. The style is the default one unless `styled`. */
+typedef struct CaptionsRun {
+    bool found;
+    bool styled;
+    size_t from;
+    size_t end;
+    uint32_t font;
+    uint32_t face;
+    uint32_t size;
+    uint32_t red;
+    uint32_t green;
+    uint32_t blue;
+    uint32_t alpha;
+    size_t styles; /* the styles behind the run: how many, and where the first stands */
+    size_t styles_from;
+} CaptionsRun;
+
+/* The run of a good sample that begins at character k: first `styles`, `styles_from` and `characters` of captions_tx3g_read_sample with k 0, then
+   `styles` and `styles_from` of the run before with its `end`. The runs lie end to end and cover the text; neighbouring characters of the
+   default style are in one run. Where k is not below `characters` nothing is found; styles that do not lie in the sample count as none. */
+CaptionsRun captions_tx3g_next_run(const uint8_t *sample, size_t sample_len, size_t styles, size_t styles_from, size_t k, size_t characters);
+
 typedef struct CaptionsTextBox {
     CaptionsRefusal refusal;
     uint32_t who;
-    bool insample;
-    size_t offset;
+    bool in_sample; /* its eight bytes stand in the sample, else in the entry */
+    size_t from;    /* from this byte on */
+    int32_t top;
+    int32_t left;
+    int32_t bottom;
+    int32_t right;
 } CaptionsTextBox;
+
+/* The text box in force: the sample's, else the entry's. */
+CaptionsTextBox captions_tx3g_text_box(const uint8_t *entry, size_t entry_len, const uint8_t *sample, size_t sample_len);
 
 /* A modifier of a good sample, a refusal, or at the end neither: number 0 and nothing found. Its numbers and what stands from `from` on
    go by the type of its box:
@@ -181,20 +357,14 @@ typedef struct CaptionsModifier {
     uint32_t fourth;
     size_t from;
     size_t end;
-    size_t alternativefrom;
-    size_t alternativeend;
+    size_t alternative_from;
+    size_t alternative_end;
     size_t next;
 } CaptionsModifier;
 
-/* The entry is judged first, then the sample, then k (7, the sample's, place 0). */
-CaptionsRefusal captions_judge_tx3g_entry(const uint8_t *entry, size_t entry_len);
-CaptionsTx3g captions_judge_tx3g_sample(const uint8_t *entry, size_t entry_len, const uint8_t *sample, size_t sample_len);
-CaptionsStyle captions_style(const uint8_t *entry, size_t entry_len, const uint8_t *sample, size_t sample_len, size_t k);
-CaptionsTextBox captions_text_box(const uint8_t *entry, size_t entry_len, const uint8_t *sample, size_t sample_len);
-/* Where a sample's modifiers begin; and the first modifier from a place on: there, or the `next` of the one before. A bad header gives
-   1 or 2; a modifier box that its content does not fill, which a good sample never holds, is passed over. */
-size_t captions_modifiers_from(const uint8_t *sample, size_t sample_len);
-CaptionsModifier captions_next_modifier(const uint8_t *sample, size_t sample_len, size_t from);
+/* The first modifier from a place on: `modifiers` of captions_tx3g_read_sample, or the `next` of the one before. A bad header gives 1 or 2; a
+   modifier box that its content does not fill, which a good sample never holds, is passed over. */
+CaptionsModifier captions_tx3g_next_modifier(const uint8_t *sample, size_t sample_len, size_t from);
 
 #ifdef __cplusplus
 }

@@ -3,6 +3,7 @@ use Prim.Native.Nat.{ℕ}
 use mathlib.Core.Bool.{Bool, true, false}
 use mathlib.Core.List.{List}
 use lib.Dec.{ltb}
+use lib.IntN.{pos}
 use Rattle.base.specs.Choice.{pick, both}
 use Rattle.verdict.specs.declared.Refusal.{Refusal}
 use Rattle.verdict.specs.declared.Verdict.{Verdict}
@@ -20,18 +21,40 @@ use Rattle.pack.specs.declared.Packed.{Packed}
 use Rattle.pack.specs.declared.Packed.the-variants.{Done, Refused as NotPacked}
 use Rattle.unpack.specs.declared.Unpacked.{Unpacked}
 use Rattle.unpack.specs.declared.Unpacked.the-variants.{Done as Listed, Refused as NotListed}
-use Rattle.tx3g_sample.specs.declared.Reading.{Reading}
-use Rattle.tx3g_sample.specs.declared.Reading.the-variants.{Good, BadEntry, BadSample}
+use Rattle.conform.specs.declared.Checked.{Checked}
+use Rattle.conform.specs.declared.Checked.the-variants.{Passed, BadList, BadTrack}
+use Rattle.wvtt_entry.specs.declared.Entry.{Entry as WvttEntry}
+use Rattle.wvtt_entry.specs.declared.Entry.the-variants.{Whole as WvttWhole, Refused as WvttRefused}
+use Rattle.wvtt_entry_write.specs.declared.Written.{Written}
+use Rattle.wvtt_entry_write.specs.declared.Written.the-variants.{Done as WrittenDone, Refused as NotWritten}
+use Rattle.signed.specs.declared.Edges.{Edges}
+use Rattle.signed.specs.Signed.{edgesAt}
+use Rattle.tx3g_read.specs.declared.Fields.{Fields}
+use Rattle.tx3g_read.specs.declared.Entry.{Entry as Tx3gEntry}
+use Rattle.tx3g_read.specs.declared.Entry.the-variants.{Whole as Tx3gWhole, Refused as Tx3gRefused}
+use Rattle.tx3g_read.specs.declared.Font.{Font}
+use Rattle.tx3g_read.specs.declared.Font.the-variants.{Named, Missing}
+use Rattle.tx3g_read.specs.declared.Content.{Content}
+use Rattle.tx3g_read.specs.declared.Content.the-variants.{Whole as ContentWhole, BadEntry as EntryAtFault, BadSample as SampleAtFault}
+use Rattle.tx3g_runs.specs.declared.Run.{Run}
+use Rattle.tx3g_runs.specs.declared.Run.the-variants.{Styled as StyledRun, Plain as PlainRun, End as NoRun}
 use Rattle.tx3g_style.specs.declared.Styled.{Styled}
 use Rattle.tx3g_style.specs.declared.Styled.the-variants.{Found, BadEntry as EntryOf, BadSample as SampleOf}
 use Rattle.tx3g_box.specs.declared.Spot.{Spot}
-use Rattle.tx3g_box.specs.declared.Spot.the-variants.{Sample, Entry, Nowhere}
+use Rattle.tx3g_box.specs.declared.Spot.the-variants.{Sample, Entry, BadEntry as BoxEntry, BadSample as BoxSample}
+use Rattle.tx3g_box.specs.TextBox.{bytesAt}
 use Rattle.tx3g_modifiers.specs.declared.Modifier.{Modifier}
 use Rattle.tx3g_modifiers.specs.declared.Modifier.the-variants.{Styles, Highlight, Blink, Colour, Karaoke, Delay, Link, TextBox, Wrap}
 use Rattle.tx3g_modifiers.specs.declared.Held.{Held as Modified}
 use Rattle.tx3g_modifiers.specs.declared.Held.the-variants.{One, Refused as NotRead, End as NoMore}
+use Rattle.captions.specs.declared.CaptionsChecked.{CaptionsChecked}
+use Rattle.captions.specs.declared.CaptionsWvttEntry.{CaptionsWvttEntry}
+use Rattle.captions.specs.declared.CaptionsWritten.{CaptionsWritten}
+use Rattle.captions.specs.declared.CaptionsTx3gEntry.{CaptionsTx3gEntry}
+use Rattle.captions.specs.declared.CaptionsFont.{CaptionsFont}
+use Rattle.captions.specs.declared.CaptionsTx3gSample.{CaptionsTx3gSample}
+use Rattle.captions.specs.declared.CaptionsRun.{CaptionsRun}
 use Rattle.captions.specs.declared.CaptionsPacked.{CaptionsPacked}
-use Rattle.captions.specs.declared.CaptionsTx3g.{CaptionsTx3g}
 use Rattle.captions.specs.declared.CaptionsUnpacked.{CaptionsUnpacked}
 use Rattle.captions.specs.declared.CaptionsStyle.{CaptionsStyle}
 use Rattle.captions.specs.declared.CaptionsTextBox.{CaptionsTextBox}
@@ -71,12 +94,12 @@ noCue r =
       found = false;
       named = false;
       id = 0;
-      identifierfrom = 0;
-      identifierend = 0;
-      settingsfrom = 0;
-      settingsend = 0;
-      payloadfrom = 0;
-      payloadend = 0;
+      «identifier_from» = 0;
+      «identifier_end» = 0;
+      «settings_from» = 0;
+      «settings_end» = 0;
+      «payload_from» = 0;
+      «payload_end» = 0;
       next = 0;
     }
 
@@ -88,12 +111,12 @@ flatHeld (Cue c n) =
       found = true;
       named = c .named;
       id = c .id;
-      identifierfrom = c .identifier .from;
-      identifierend = c .identifier .end;
-      settingsfrom = c .settings .from;
-      settingsend = c .settings .end;
-      payloadfrom = c .payload .from;
-      payloadend = c .payload .end;
+      «identifier_from» = c .identifier .from;
+      «identifier_end» = c .identifier .end;
+      «settings_from» = c .settings .from;
+      «settings_end» = c .settings .end;
+      «payload_from» = c .payload .from;
+      «payload_end» = c .payload .end;
       next = n;
     }
 flatHeld (NotWhole r) = noCue r
@@ -105,19 +128,152 @@ msOf scale t = pick (both (ltb 0 scale) (ltb t 281474976710656)) (back scale t) 
 
 -- what packing answers
 abbrev pub flatPacked : Packed → CaptionsPacked
-flatPacked (Done n t b) = record { refusal = nothing; samples = n; tablebytes = t; samplebytes = b }
-flatPacked (NotPacked r) = record { refusal = r; samples = 0; tablebytes = 0; samplebytes = 0 }
+flatPacked (Done n t b) = record { refusal = nothing; samples = n; «table_bytes» = t; «sample_bytes» = b }
+flatPacked (NotPacked r) = record { refusal = r; samples = 0; «table_bytes» = 0; «sample_bytes» = 0 }
 
 -- what unpacking answers
 abbrev pub flatUnpacked : Unpacked → CaptionsUnpacked
-flatUnpacked (Listed n p t) = record { refusal = nothing; recordbytes = n; poolbytes = p; t = t }
-flatUnpacked (NotListed r) = record { refusal = r; recordbytes = 0; poolbytes = 0; t = 0 }
+flatUnpacked (Listed n p t) = record { refusal = nothing; «record_bytes» = n; «pool_bytes» = p; t = t }
+flatUnpacked (NotListed r) = record { refusal = r; «record_bytes» = 0; «pool_bytes» = 0; t = 0 }
 
--- a `tx3g` sample beside its entry; who is at fault: 1 the entry, 2 the sample, 0 nobody
-abbrev pub flatReading : Reading → CaptionsTx3g
-flatReading (Good n) = record { refusal = nothing; who = 0; characters = n }
-flatReading (BadEntry r) = record { refusal = r; who = 1; characters = 0 }
-flatReading (BadSample r) = record { refusal = r; who = 2; characters = 0 }
+-- what the check answers. Who is at fault: 1 an entry, 2 a sample, 3 a list, 4 a track, 0 nobody
+abbrev pub flatChecked : Checked → CaptionsChecked
+flatChecked Passed = record { refusal = nothing; who = 0 }
+flatChecked (BadList r) = record { refusal = r; who = 3 }
+flatChecked (BadTrack r) = record { refusal = r; who = 4 }
+
+-- a `wvtt` entry: its texts where they stand
+abbrev pub flatWvttEntry : WvttEntry → CaptionsWvttEntry
+flatWvttEntry (WvttWhole i c b l) =
+    record {
+      refusal = nothing;
+      «data_reference_index» = i;
+      labelled = b;
+      «configuration_from» = c .from;
+      «configuration_end» = c .end;
+      «label_from» = l .from;
+      «label_end» = l .end;
+    }
+flatWvttEntry (WvttRefused r) =
+    record { refusal = r; «data_reference_index» = 0; labelled = false; «configuration_from» = 0; «configuration_end» = 0; «label_from» = 0; «label_end» = 0 }
+
+-- the bytes that were written
+abbrev pub flatWritten : Written → CaptionsWritten
+flatWritten (WrittenDone n) = record { refusal = nothing; bytes = n }
+flatWritten (NotWritten r) = record { refusal = r; bytes = 0 }
+
+-- the fields of a `tx3g` entry
+abbrev pub flatFields : Fields → CaptionsTx3gEntry
+flatFields f =
+    record {
+      refusal = nothing;
+      «data_reference_index» = f .index;
+      «display_flags» = f .flags;
+      horizontal = f .horizontal;
+      vertical = f .vertical;
+      «background_red» = f .background .red;
+      «background_green» = f .background .green;
+      «background_blue» = f .background .blue;
+      «background_alpha» = f .background .alpha;
+      top = f .top;
+      left = f .left;
+      bottom = f .bottom;
+      right = f .right;
+      font = f .style .font;
+      face = f .style .face;
+      size = f .style .size;
+      red = f .style .red;
+      green = f .style .green;
+      blue = f .style .blue;
+      alpha = f .style .alpha;
+      fonts = f .fonts;
+      «fonts_from» = f .from;
+    }
+
+-- no fields, and why
+abbrev pub noFields : Refusal → CaptionsTx3gEntry
+noFields r =
+    record {
+      refusal = r;
+      «data_reference_index» = 0;
+      «display_flags» = 0;
+      horizontal = pos 0;
+      vertical = pos 0;
+      «background_red» = 0;
+      «background_green» = 0;
+      «background_blue» = 0;
+      «background_alpha» = 0;
+      top = pos 0;
+      left = pos 0;
+      bottom = pos 0;
+      right = pos 0;
+      font = 0;
+      face = 0;
+      size = 0;
+      red = 0;
+      green = 0;
+      blue = 0;
+      alpha = 0;
+      fonts = 0;
+      «fonts_from» = 0;
+    }
+
+abbrev pub flatTx3gEntry : Tx3gEntry → CaptionsTx3gEntry
+flatTx3gEntry (Tx3gWhole f) = flatFields f
+flatTx3gEntry (Tx3gRefused r) = noFields r
+
+-- a font, if its bytes are there
+abbrev pub flatFont : Font → CaptionsFont
+flatFont (Named i f e) = record { found = true; id = i; «name_from» = f; «name_end» = e }
+flatFont Missing = record { found = false; id = 0; «name_from» = 0; «name_end» = 0 }
+
+-- no sample, why, and who is at fault
+abbrev pub noContent : Refusal → ℕ → CaptionsTx3gSample
+noContent r who =
+    record { refusal = r; who = who; characters = 0; utf16 = false; «text_from» = 0; «text_end» = 0; modifiers = 0; styles = 0; «styles_from» = 0 }
+
+-- what a `tx3g` sample holds; its modifiers begin where its text ends
+abbrev pub flatContent : Content → CaptionsTx3gSample
+flatContent (ContentWhole n t y) =
+    record {
+      refusal = nothing;
+      who = 0;
+      characters = n;
+      utf16 = t .utf16;
+      «text_from» = t .from;
+      «text_end» = t .end;
+      modifiers = t .end;
+      styles = y .count;
+      «styles_from» = y .from;
+    }
+flatContent (EntryAtFault r) = noContent r 1
+flatContent (SampleAtFault r) = noContent r 2
+
+-- a run of the default style, or none
+abbrev pub plainRun : Bool → ℕ → ℕ → ℕ → ℕ → CaptionsRun
+plainRun b f e l n =
+    record { found = b; styled = false; from = f; end = e; font = 0; face = 0; size = 0; red = 0; green = 0; blue = 0; alpha = 0; styles = l; «styles_from» = n }
+
+-- a run from character k on
+abbrev pub flatRun : Run → ℕ → CaptionsRun
+flatRun (StyledRun e t l n) k =
+    record {
+      found = true;
+      styled = true;
+      from = k;
+      end = e;
+      font = t .font;
+      face = t .face;
+      size = t .size;
+      red = t .red;
+      green = t .green;
+      blue = t .blue;
+      alpha = t .alpha;
+      styles = l;
+      «styles_from» = n;
+    }
+flatRun (PlainRun e l n) k = plainRun true k e l n
+flatRun NoRun k = plainRun false 0 0 0 0
 
 -- no style, and why; who is at fault
 abbrev pub noStyle : Refusal → ℕ → CaptionsStyle
@@ -129,15 +285,23 @@ flatStyled (Found s) = record { refusal = nothing; who = 0; start = s .start; en
 flatStyled (EntryOf r) = noStyle r 1
 flatStyled (SampleOf r) = noStyle r 2
 
--- where the text box in force stands; where nowhere, the reading's refusal
-abbrev pub flatSpot : Spot → Reading → CaptionsTextBox
-flatSpot (Sample b) r = record { refusal = nothing; who = 0; insample = true; offset = b }
-flatSpot Entry r = record { refusal = nothing; who = 0; insample = false; offset = 26 }
-flatSpot Nowhere r = record { refusal = (flatReading r) .refusal; who = (flatReading r) .who; insample = false; offset = 0 }
+-- a text box, and where it stands
+abbrev pub boxOf : Bool → ℕ → Edges → CaptionsTextBox
+boxOf b f x = record { refusal = nothing; who = 0; «in_sample» = b; from = f; top = x .top; left = x .left; bottom = x .bottom; right = x .right }
+
+abbrev pub noBox : Refusal → ℕ → CaptionsTextBox
+noBox r who = record { refusal = r; who = who; «in_sample» = false; from = 0; top = pos 0; left = pos 0; bottom = pos 0; right = pos 0 }
+
+-- the text box in force: the numbers of its eight bytes, of entry e or of sample s
+abbrev pub flatSpot : List ℕ → List ℕ → Spot → CaptionsTextBox
+flatSpot e s (Sample b) = boxOf true b (edgesAt (bytesAt e s (Sample b)) 0)
+flatSpot e s Entry = boxOf false 26 (edgesAt (bytesAt e s Entry) 0)
+flatSpot e s (BoxEntry r) = noBox r 1
+flatSpot e s (BoxSample r) = noBox r 2
 
 -- a modifier of a kind, with its numbers and parts
 abbrev pub modifierOf : ℕ → ℕ → ℕ → ℕ → ℕ → ℕ → ℕ → ℕ → ℕ → ℕ → CaptionsModifier
-modifierOf k a b c d f e g h n = record { refusal = nothing; found = true; kind = k; first = a; second = b; third = c; fourth = d; from = f; end = e; alternativefrom = g; alternativeend = h; next = n }
+modifierOf k a b c d f e g h n = record { refusal = nothing; found = true; kind = k; first = a; second = b; third = c; fourth = d; from = f; end = e; «alternative_from» = g; «alternative_end» = h; next = n }
 
 -- by the type of the box: `styl`, `hlit`, `blnk`, `hclr`, `krok`, `dlay`, `href`, `tbox`, `twrp`
 abbrev pub flatModifier : Modifier → ℕ → CaptionsModifier
@@ -153,7 +317,7 @@ flatModifier (Wrap w) n = modifierOf 0x74777270 w 0 0 0 0 0 0 0 n
 
 -- no modifier, and why
 abbrev pub noModifier : Refusal → CaptionsModifier
-noModifier r = record { refusal = r; found = false; kind = 0; first = 0; second = 0; third = 0; fourth = 0; from = 0; end = 0; alternativefrom = 0; alternativeend = 0; next = 0 }
+noModifier r = record { refusal = r; found = false; kind = 0; first = 0; second = 0; third = 0; fourth = 0; from = 0; end = 0; «alternative_from» = 0; «alternative_end» = 0; next = 0 }
 
 -- a modifier of a sample, or a refusal, or neither at the end
 abbrev pub flatModified : Modified → CaptionsModifier

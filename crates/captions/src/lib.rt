@@ -1,12 +1,19 @@
 // The library for C and Rust: every public operation under the prefix `captions_`, answers by value.
 use boxes::Step;
 use characters::Counted;
+use conform::Checked;
 use pack::Packed;
+use signed::Edges;
+use signed::read_edges;
 use tx3g_box::Spot;
 use tx3g_modifiers::Held as Modified;
 use tx3g_modifiers::Modifier;
 use tx3g_modifiers::Part;
-use tx3g_sample::Reading;
+use tx3g_read::Content;
+use tx3g_read::Entry as Tx3gEntry;
+use tx3g_read::Fields;
+use tx3g_read::Font;
+use tx3g_runs::Run;
 use tx3g_style::Styled;
 use unpack::Unpacked;
 use verdict::Refusal;
@@ -16,6 +23,8 @@ use verdict::fault_at;
 use verdict::text_at;
 use viable::Judged;
 use wvtt_cues::Held;
+use wvtt_entry::Entry as WvttEntry;
+use wvtt_entry_write::Written;
 ghost use mathlib.Core.Path.{_≡_};
 ghost use lib.ListN.{length};
 ghost use Rattle.verdict.specs.Judgement.{textAt};
@@ -27,19 +36,21 @@ ghost use Rattle.boxes.specs.Boxes.{stepAt, boxesIn};
 ghost use Rattle.times.specs.Times.{tick};
 ghost use Rattle.wvtt.specs.Sample.{judgeSample};
 ghost use Rattle.wvtt_cues.specs.Cues.{nextCue};
-ghost use Rattle.wvtt_entry.specs.Entry.{judgeEntry};
+ghost use Rattle.wvtt_entry.specs.Reading.{readEntry as readWvttEntry};
+ghost use Rattle.wvtt_entry_write.specs.Writing.{labelOf, entryBytes, roomOf, writtenOf, after as writtenAfter};
 ghost use Rattle.cues.specs.Judgement.{judgeList};
 ghost use Rattle.track.specs.Track.{judgeTrack};
-ghost use Rattle.pack.specs.Packing.{packedTrack, tableBytes, samplesBytes, packedOf, after};
-ghost use Rattle.unpack.specs.Unpacking.{trackCues, unpackOf, outOf};
+ghost use Rattle.pack.specs.Packing.{packedTrack, tableBytes, samplesBytes, packRoom, packedOf, after};
+ghost use Rattle.unpack.specs.Unpacking.{trackCues, unpackRoom, unpackOf, outOf};
 ghost use Rattle.unpack_write.specs.Records.{recordsOf, poolOf};
-ghost use Rattle.conform.specs.Conformance.{conformance};
-ghost use Rattle.tx3g_entry.specs.Entry.{judgeEntry as judgeTimedText};
-ghost use Rattle.tx3g_sample.specs.Sample.{readSample};
+ghost use Rattle.conform.specs.Conformance.{checked};
+ghost use Rattle.tx3g_read.specs.Entry.{readEntry as readTx3gEntry, fontIn};
+ghost use Rattle.tx3g_read.specs.Sample.{contentOf};
+ghost use Rattle.tx3g_runs.specs.Runs.{nextRun};
 ghost use Rattle.tx3g_style.specs.Style.{styleOf};
 ghost use Rattle.tx3g_box.specs.TextBox.{spotOf};
-ghost use Rattle.tx3g_modifiers.specs.Modifiers.{boxesFrom, nextModifier};
-ghost use Rattle.captions.specs.Flat.{flatVerdict, flatText, flatCount, flatStep, noCue, flatHeld, msOf, flatPacked, flatUnpacked, flatReading, noStyle, flatStyled, flatSpot, modifierOf, flatModifier, noModifier, flatModified};
+ghost use Rattle.tx3g_modifiers.specs.Modifiers.{nextModifier};
+ghost use Rattle.captions.specs.Flat.{flatVerdict, flatText, flatCount, flatStep, noCue, flatHeld, msOf, flatPacked, flatUnpacked, flatChecked, flatWvttEntry, flatWritten, flatFields, noFields, flatTx3gEntry, flatFont, noContent, flatContent, plainRun, flatRun, boxOf, noBox, flatSpot, noStyle, flatStyled, modifierOf, flatModifier, noModifier, flatModified};
 
 #[repr(C)]
 pub struct CaptionsCount {
@@ -62,12 +73,12 @@ pub struct CaptionsCue {
     pub found: bool,
     pub named: bool,
     pub id: u32,
-    pub identifierfrom: usize,
-    pub identifierend: usize,
-    pub settingsfrom: usize,
-    pub settingsend: usize,
-    pub payloadfrom: usize,
-    pub payloadend: usize,
+    pub identifier_from: usize,
+    pub identifier_end: usize,
+    pub settings_from: usize,
+    pub settings_end: usize,
+    pub payload_from: usize,
+    pub payload_end: usize,
     pub next: usize,
 }
 
@@ -75,23 +86,86 @@ pub struct CaptionsCue {
 pub struct CaptionsPacked {
     pub refusal: Refusal,
     pub samples: usize,
-    pub tablebytes: usize,
-    pub samplebytes: usize,
+    pub table_bytes: usize,
+    pub sample_bytes: usize,
 }
 
 #[repr(C)]
 pub struct CaptionsUnpacked {
     pub refusal: Refusal,
-    pub recordbytes: usize,
-    pub poolbytes: usize,
+    pub record_bytes: usize,
+    pub pool_bytes: usize,
     pub t: u32,
 }
 
 #[repr(C)]
-pub struct CaptionsTx3g {
+pub struct CaptionsChecked {
+    pub refusal: Refusal,
+    pub who: u32,
+}
+
+#[repr(C)]
+pub struct CaptionsWvttEntry {
+    pub refusal: Refusal,
+    pub data_reference_index: u32,
+    pub labelled: bool,
+    pub configuration_from: usize,
+    pub configuration_end: usize,
+    pub label_from: usize,
+    pub label_end: usize,
+}
+
+#[repr(C)]
+pub struct CaptionsWritten {
+    pub refusal: Refusal,
+    pub bytes: usize,
+}
+
+#[repr(C)]
+pub struct CaptionsTx3gEntry {
+    pub refusal: Refusal,
+    pub data_reference_index: u32,
+    pub display_flags: u32,
+    pub horizontal: i32,
+    pub vertical: i32,
+    pub background_red: u32,
+    pub background_green: u32,
+    pub background_blue: u32,
+    pub background_alpha: u32,
+    pub top: i32,
+    pub left: i32,
+    pub bottom: i32,
+    pub right: i32,
+    pub font: u32,
+    pub face: u32,
+    pub size: u32,
+    pub red: u32,
+    pub green: u32,
+    pub blue: u32,
+    pub alpha: u32,
+    pub fonts: usize,
+    pub fonts_from: usize,
+}
+
+#[repr(C)]
+pub struct CaptionsFont {
+    pub found: bool,
+    pub id: u32,
+    pub name_from: usize,
+    pub name_end: usize,
+}
+
+#[repr(C)]
+pub struct CaptionsTx3gSample {
     pub refusal: Refusal,
     pub who: u32,
     pub characters: usize,
+    pub utf16: bool,
+    pub text_from: usize,
+    pub text_end: usize,
+    pub modifiers: usize,
+    pub styles: usize,
+    pub styles_from: usize,
 }
 
 #[repr(C)]
@@ -110,14 +184,35 @@ pub struct CaptionsStyle {
 }
 
 #[repr(C)]
+pub struct CaptionsRun {
+    pub found: bool,
+    pub styled: bool,
+    pub from: usize,
+    pub end: usize,
+    pub font: u32,
+    pub face: u32,
+    pub size: u32,
+    pub red: u32,
+    pub green: u32,
+    pub blue: u32,
+    pub alpha: u32,
+    pub styles: usize,
+    pub styles_from: usize,
+}
+
+#[repr(C)]
 pub struct CaptionsTextBox {
     pub refusal: Refusal,
     pub who: u32,
-    pub insample: bool,
-    pub offset: usize,
+    pub in_sample: bool,
+    pub from: usize,
+    pub top: i32,
+    pub left: i32,
+    pub bottom: i32,
+    pub right: i32,
 }
 
-// A modifier by the type of its box. What its numbers are, and what stands from `from` on, is said at `captions_next_modifier`.
+// A modifier by the type of its box. What its numbers are, and what stands from `from` on, is said at `captions_tx3g_next_modifier`.
 #[repr(C)]
 pub struct CaptionsModifier {
     pub refusal: Refusal,
@@ -129,8 +224,8 @@ pub struct CaptionsModifier {
     pub fourth: u32,
     pub from: usize,
     pub end: usize,
-    pub alternativefrom: usize,
-    pub alternativeend: usize,
+    pub alternative_from: usize,
+    pub alternative_end: usize,
     pub next: usize,
 }
 
@@ -202,12 +297,12 @@ fn no_cue(refusal: Refusal) -> CaptionsCue
         found: false,
         named: false,
         id: 0,
-        identifierfrom: 0,
-        identifierend: 0,
-        settingsfrom: 0,
-        settingsend: 0,
-        payloadfrom: 0,
-        payloadend: 0,
+        identifier_from: 0,
+        identifier_end: 0,
+        settings_from: 0,
+        settings_end: 0,
+        payload_from: 0,
+        payload_end: 0,
         next: 0,
     }
 }
@@ -221,12 +316,12 @@ fn flat_held(h: Held) -> CaptionsCue
             found: true,
             named: parts.named,
             id: parts.id,
-            identifierfrom: parts.identifier.from,
-            identifierend: parts.identifier.end,
-            settingsfrom: parts.settings.from,
-            settingsend: parts.settings.end,
-            payloadfrom: parts.payload.from,
-            payloadend: parts.payload.end,
+            identifier_from: parts.identifier.from,
+            identifier_end: parts.identifier.end,
+            settings_from: parts.settings.from,
+            settings_end: parts.settings.end,
+            payload_from: parts.payload.from,
+            payload_end: parts.payload.end,
             next,
         },
         Held::Refused(why) => no_cue(why),
@@ -245,14 +340,14 @@ fn flat_packed(p: Packed) -> CaptionsPacked
         } => CaptionsPacked {
             refusal: fault_at(0, 0),
             samples,
-            tablebytes: table,
-            samplebytes: bytes,
+            table_bytes: table,
+            sample_bytes: bytes,
         },
         Packed::Refused(why) => CaptionsPacked {
             refusal: why,
             samples: 0,
-            tablebytes: 0,
-            samplebytes: 0,
+            table_bytes: 0,
+            sample_bytes: 0,
         },
     }
 }
@@ -263,38 +358,287 @@ fn flat_unpacked(u: Unpacked) -> CaptionsUnpacked
     match u {
         Unpacked::Done { records, pool, t } => CaptionsUnpacked {
             refusal: fault_at(0, 0),
-            recordbytes: records,
-            poolbytes: pool,
+            record_bytes: records,
+            pool_bytes: pool,
             t,
         },
         Unpacked::Refused(why) => CaptionsUnpacked {
             refusal: why,
-            recordbytes: 0,
-            poolbytes: 0,
+            record_bytes: 0,
+            pool_bytes: 0,
             t: 0,
         },
     }
 }
 
-fn flat_reading(r: Reading) -> CaptionsTx3g
-    ensures { λ a. ⌜ a ≡ flatReading r ⌝ }
+// Who is at fault: 1 an entry, 2 a sample, 3 a list, 4 a track, 0 nobody.
+fn flat_checked(c: Checked) -> CaptionsChecked
+    ensures { λ r. ⌜ r ≡ flatChecked c ⌝ }
 {
-    match r {
-        Reading::Good(characters) => CaptionsTx3g {
+    match c {
+        Checked::Passed => CaptionsChecked {
+            refusal: fault_at(0, 0),
+            who: 0,
+        },
+        Checked::BadList(why) => CaptionsChecked {
+            refusal: why,
+            who: 3,
+        },
+        Checked::BadTrack(why) => CaptionsChecked {
+            refusal: why,
+            who: 4,
+        },
+    }
+}
+
+fn flat_wvtt_entry(e: WvttEntry) -> CaptionsWvttEntry
+    ensures { λ r. ⌜ r ≡ flatWvttEntry e ⌝ }
+{
+    match e {
+        WvttEntry::Whole {
+            index,
+            configuration,
+            labelled,
+            label,
+        } => CaptionsWvttEntry {
+            refusal: fault_at(0, 0),
+            data_reference_index: index,
+            labelled,
+            configuration_from: configuration.from,
+            configuration_end: configuration.end,
+            label_from: label.from,
+            label_end: label.end,
+        },
+        WvttEntry::Refused(why) => CaptionsWvttEntry {
+            refusal: why,
+            data_reference_index: 0,
+            labelled: false,
+            configuration_from: 0,
+            configuration_end: 0,
+            label_from: 0,
+            label_end: 0,
+        },
+    }
+}
+
+fn flat_written(w: Written) -> CaptionsWritten
+    ensures { λ r. ⌜ r ≡ flatWritten w ⌝ }
+{
+    match w {
+        Written::Done(bytes) => CaptionsWritten {
+            refusal: fault_at(0, 0),
+            bytes,
+        },
+        Written::Refused(why) => CaptionsWritten {
+            refusal: why,
+            bytes: 0,
+        },
+    }
+}
+
+fn flat_fields(f: Fields) -> CaptionsTx3gEntry
+    ensures { λ r. ⌜ r ≡ flatFields f ⌝ }
+{
+    CaptionsTx3gEntry {
+        refusal: fault_at(0, 0),
+        data_reference_index: f.index,
+        display_flags: f.flags,
+        horizontal: f.horizontal,
+        vertical: f.vertical,
+        background_red: f.background.red,
+        background_green: f.background.green,
+        background_blue: f.background.blue,
+        background_alpha: f.background.alpha,
+        top: f.top,
+        left: f.left,
+        bottom: f.bottom,
+        right: f.right,
+        font: f.style.font,
+        face: f.style.face,
+        size: f.style.size,
+        red: f.style.red,
+        green: f.style.green,
+        blue: f.style.blue,
+        alpha: f.style.alpha,
+        fonts: f.fonts as usize,
+        fonts_from: f.from,
+    }
+}
+
+fn no_fields(refusal: Refusal) -> CaptionsTx3gEntry
+    ensures { λ r. ⌜ r ≡ noFields refusal ⌝ }
+{
+    CaptionsTx3gEntry {
+        refusal,
+        data_reference_index: 0,
+        display_flags: 0,
+        horizontal: 0,
+        vertical: 0,
+        background_red: 0,
+        background_green: 0,
+        background_blue: 0,
+        background_alpha: 0,
+        top: 0,
+        left: 0,
+        bottom: 0,
+        right: 0,
+        font: 0,
+        face: 0,
+        size: 0,
+        red: 0,
+        green: 0,
+        blue: 0,
+        alpha: 0,
+        fonts: 0,
+        fonts_from: 0,
+    }
+}
+
+fn flat_tx3g_entry(e: Tx3gEntry) -> CaptionsTx3gEntry
+    ensures { λ r. ⌜ r ≡ flatTx3gEntry e ⌝ }
+{
+    match e {
+        Tx3gEntry::Whole(fields) => flat_fields(fields),
+        Tx3gEntry::Refused(why) => no_fields(why),
+    }
+}
+
+fn flat_font(f: Font) -> CaptionsFont
+    ensures { λ r. ⌜ r ≡ flatFont f ⌝ }
+{
+    match f {
+        Font::Named { id, from, end } => CaptionsFont {
+            found: true,
+            id,
+            name_from: from,
+            name_end: end,
+        },
+        Font::Missing => CaptionsFont {
+            found: false,
+            id: 0,
+            name_from: 0,
+            name_end: 0,
+        },
+    }
+}
+
+fn no_content(refusal: Refusal, who: u32) -> CaptionsTx3gSample
+    ensures { λ r. ⌜ r ≡ noContent refusal who ⌝ }
+{
+    CaptionsTx3gSample {
+        refusal,
+        who,
+        characters: 0,
+        utf16: false,
+        text_from: 0,
+        text_end: 0,
+        modifiers: 0,
+        styles: 0,
+        styles_from: 0,
+    }
+}
+
+fn flat_content(c: Content) -> CaptionsTx3gSample
+    ensures { λ r. ⌜ r ≡ flatContent c ⌝ }
+{
+    match c {
+        Content::Whole {
+            characters,
+            text,
+            styles,
+        } => CaptionsTx3gSample {
             refusal: fault_at(0, 0),
             who: 0,
             characters,
+            utf16: text.utf16,
+            text_from: text.from,
+            text_end: text.end,
+            modifiers: text.end,
+            styles: styles.count as usize,
+            styles_from: styles.from,
         },
-        Reading::BadEntry(why) => CaptionsTx3g {
-            refusal: why,
-            who: 1,
-            characters: 0,
+        Content::BadEntry(why) => no_content(why, 1),
+        Content::BadSample(why) => no_content(why, 2),
+    }
+}
+
+fn flat_run(r: Run, k: usize) -> CaptionsRun
+    ensures { λ a. ⌜ a ≡ flatRun r k ⌝ }
+{
+    match r {
+        Run::Styled {
+            end,
+            style,
+            left,
+            next,
+        } => CaptionsRun {
+            found: true,
+            styled: true,
+            from: k,
+            end,
+            font: style.font,
+            face: style.face,
+            size: style.size,
+            red: style.red,
+            green: style.green,
+            blue: style.blue,
+            alpha: style.alpha,
+            styles: left,
+            styles_from: next,
         },
-        Reading::BadSample(why) => CaptionsTx3g {
-            refusal: why,
-            who: 2,
-            characters: 0,
-        },
+        Run::Plain { end, left, next } => plain_run(true, k, end, left, next),
+        Run::End => plain_run(false, 0, 0, 0, 0),
+    }
+}
+
+// A run of the default style; or none.
+fn plain_run(found: bool, from: usize, end: usize, left: usize, next: usize) -> CaptionsRun
+    ensures { λ a. ⌜ a ≡ plainRun found from end left next ⌝ }
+{
+    CaptionsRun {
+        found,
+        styled: false,
+        from,
+        end,
+        font: 0,
+        face: 0,
+        size: 0,
+        red: 0,
+        green: 0,
+        blue: 0,
+        alpha: 0,
+        styles: left,
+        styles_from: next,
+    }
+}
+
+fn box_of(in_sample: bool, from: usize, edges: Edges) -> CaptionsTextBox
+    ensures { λ r. ⌜ r ≡ boxOf «in_sample» from edges ⌝ }
+{
+    CaptionsTextBox {
+        refusal: fault_at(0, 0),
+        who: 0,
+        in_sample,
+        from,
+        top: edges.top,
+        left: edges.left,
+        bottom: edges.bottom,
+        right: edges.right,
+    }
+}
+
+fn no_box(refusal: Refusal, who: u32) -> CaptionsTextBox
+    ensures { λ r. ⌜ r ≡ noBox refusal who ⌝ }
+{
+    CaptionsTextBox {
+        refusal,
+        who,
+        in_sample: false,
+        from: 0,
+        top: 0,
+        left: 0,
+        bottom: 0,
+        right: 0,
     }
 }
 
@@ -361,8 +705,8 @@ fn modifier_of(
         fourth,
         from,
         end,
-        alternativefrom: 0,
-        alternativeend: 0,
+        alternative_from: 0,
+        alternative_end: 0,
         next,
     }
 }
@@ -381,8 +725,8 @@ fn flat_link(start: u32, end: u32, url: Part, alternative: Part, next: usize) ->
         fourth: 0,
         from: url.from,
         end: url.end,
-        alternativefrom: alternative.from,
-        alternativeend: alternative.end,
+        alternative_from: alternative.from,
+        alternative_end: alternative.end,
         next,
     }
 }
@@ -435,8 +779,8 @@ fn no_modifier(refusal: Refusal) -> CaptionsModifier
         fourth: 0,
         from: 0,
         end: 0,
-        alternativefrom: 0,
-        alternativeend: 0,
+        alternative_from: 0,
+        alternative_end: 0,
         next: 0,
     }
 }
@@ -460,35 +804,35 @@ pub extern "C" fn captions_judge_utf8(text: &[u8]) -> Refusal
 }
 
 #[no_mangle]
-pub extern "C" fn captions_judge_identifier(text: &[u8]) -> Refusal
+pub extern "C" fn captions_wvtt_judge_identifier(text: &[u8]) -> Refusal
     ensures { λ r. ⌜ r ≡ flatText identifierText identifierBegun (now (text .entry)) ⌝ }
 {
     flat_text(text::judge_identifier(text))
 }
 
 #[no_mangle]
-pub extern "C" fn captions_judge_payload(text: &[u8]) -> Refusal
+pub extern "C" fn captions_wvtt_judge_payload(text: &[u8]) -> Refusal
     ensures { λ r. ⌜ r ≡ flatText payloadText payloadBegun (now (text .entry)) ⌝ }
 {
     flat_text(text::judge_payload(text))
 }
 
 #[no_mangle]
-pub extern "C" fn captions_judge_configuration(text: &[u8]) -> Refusal
+pub extern "C" fn captions_wvtt_judge_configuration(text: &[u8]) -> Refusal
     ensures { λ r. ⌜ r ≡ flatText configurationText configurationBegun (now (text .entry)) ⌝ }
 {
     flat_text(text::judge_configuration(text))
 }
 
 #[no_mangle]
-pub extern "C" fn captions_judge_label(text: &[u8]) -> Refusal
+pub extern "C" fn captions_wvtt_judge_label(text: &[u8]) -> Refusal
     ensures { λ r. ⌜ r ≡ flatText labelText labelBegun (now (text .entry)) ⌝ }
 {
     flat_text(text::judge_label(text))
 }
 
 #[no_mangle]
-pub extern "C" fn captions_count_characters(text: &[u8]) -> CaptionsCount
+pub extern "C" fn captions_tx3g_count_characters(text: &[u8]) -> CaptionsCount
     ensures { λ r. ⌜ r ≡ flatCount (charactersOf (now (text .entry))) ⌝ }
 {
     flat_count(characters::count_characters(text))
@@ -523,7 +867,7 @@ pub extern "C" fn captions_ms(scale: u32, tick: u64) -> u64
 }
 
 #[no_mangle]
-pub extern "C" fn captions_judge_sample(sample: &[u8]) -> Refusal
+pub extern "C" fn captions_wvtt_judge_sample(sample: &[u8]) -> Refusal
     ensures { λ r. ⌜ r ≡ flatVerdict (judgeSample (now (sample .entry))) ⌝ }
 {
     flat_verdict(wvtt::judge_sample(sample))
@@ -531,17 +875,51 @@ pub extern "C" fn captions_judge_sample(sample: &[u8]) -> Refusal
 
 // The first cue from `from` on, where a box begins: 0, or the `next` of the cue before; or the refusal of a header before it or among its boxes.
 #[no_mangle]
-pub extern "C" fn captions_next_cue(sample: &[u8], from: usize) -> CaptionsCue
+pub extern "C" fn captions_wvtt_next_cue(sample: &[u8], from: usize) -> CaptionsCue
     ensures { λ r. ⌜ r ≡ flatHeld (nextCue (now (sample .entry)) (boxesIn (now (sample .entry)) from (length (now (sample .entry))))) ⌝ }
 {
     flat_held(wvtt_cues::next_cue(sample, from))
 }
 
 #[no_mangle]
-pub extern "C" fn captions_judge_wvtt_entry(entry: &[u8]) -> Refusal
-    ensures { λ r. ⌜ r ≡ flatVerdict (judgeEntry (now (entry .entry))) ⌝ }
+pub extern "C" fn captions_wvtt_read_entry(entry: &[u8]) -> CaptionsWvttEntry
+    ensures { λ r. ⌜ r ≡ flatWvttEntry (readWvttEntry (now (entry .entry))) ⌝ }
 {
-    flat_verdict(wvtt_entry::judge_entry(entry))
+    flat_wvtt_entry(wvtt_entry::read_entry(entry))
+}
+
+// The length that `captions_wvtt_write_entry` needs, or its refusal.
+#[no_mangle]
+pub extern "C" fn captions_wvtt_entry_room(
+    configuration: &[u8],
+    labelled: bool,
+    label: &[u8],
+) -> CaptionsWritten
+    ensures { λ r. ⌜ r ≡ flatWritten (roomOf (now (configuration .entry)) (labelOf labelled (now (label .entry)))) ⌝ }
+{
+    flat_written(wvtt_entry_write::entry_room(configuration, labelled, label))
+}
+
+// Writes an entry with a configuration, a label if `labelled`, and a data reference index.
+#[no_mangle]
+pub extern "C" fn captions_wvtt_write_entry(
+    configuration: &[u8],
+    labelled: bool,
+    label: &[u8],
+    data_reference_index: u16,
+    entry: &mut [u8],
+) -> CaptionsWritten
+    ensures { λ r. ⌜ r ≡ flatWritten (writtenOf (now (configuration .entry)) (labelOf labelled (now (label .entry))) (length (now (entry .entry)))) ⌝ }
+    ensures { λ r. ⌜ now (entry .exit) ≡ writtenAfter (writtenOf (now (configuration .entry)) (labelOf labelled (now (label .entry))) (length (now (entry .entry)))) (entryBytes (now (configuration .entry)) (labelOf labelled (now (label .entry))) «data_reference_index») (now (entry .entry)) ⌝ }
+{
+    let w = wvtt_entry_write::write_entry(
+        configuration,
+        labelled,
+        label,
+        data_reference_index,
+        &mut *entry,
+    );
+    flat_written(w)
 }
 
 #[no_mangle]
@@ -552,15 +930,28 @@ pub extern "C" fn captions_judge_list(scale: u32, t: u32, records: &[u8], pool: 
 }
 
 #[no_mangle]
-pub extern "C" fn captions_judge_track(table: &[u8], samples: &[u8]) -> Refusal
+pub extern "C" fn captions_wvtt_judge_track(table: &[u8], samples: &[u8]) -> Refusal
     ensures { λ r. ⌜ r ≡ flatVerdict (judgeTrack (now (table .entry)) (now (samples .entry))) ⌝ }
 {
     flat_verdict(track::judge_track(table, samples))
 }
 
+// The lengths that `captions_wvtt_pack` needs, or its refusal.
+#[no_mangle]
+pub extern "C" fn captions_wvtt_pack_room(
+    scale: u32,
+    t: u32,
+    records: &[u8],
+    pool: &[u8],
+) -> CaptionsPacked
+    ensures { λ r. ⌜ r ≡ flatPacked (packRoom scale t (now (records .entry)) (now (pool .entry))) ⌝ }
+{
+    flat_packed(pack::pack_room(scale, t, records, pool))
+}
+
 // Packs a cue list into a sample table and samples.
 #[no_mangle]
-pub extern "C" fn captions_pack(
+pub extern "C" fn captions_wvtt_pack(
     scale: u32,
     t: u32,
     records: &[u8],
@@ -576,9 +967,21 @@ pub extern "C" fn captions_pack(
     flat_packed(p)
 }
 
+// The lengths that `captions_wvtt_unpack` needs, or its refusal.
+#[no_mangle]
+pub extern "C" fn captions_wvtt_unpack_room(
+    scale: u32,
+    table: &[u8],
+    samples: &[u8],
+) -> CaptionsUnpacked
+    ensures { λ r. ⌜ r ≡ flatUnpacked (unpackRoom scale (now (table .entry)) (now (samples .entry))) ⌝ }
+{
+    flat_unpacked(unpack::unpack_room(scale, table, samples))
+}
+
 // Unpacks a track into records and their pool.
 #[no_mangle]
-pub extern "C" fn captions_unpack(
+pub extern "C" fn captions_wvtt_unpack(
     scale: u32,
     table: &[u8],
     samples: &[u8],
@@ -595,86 +998,86 @@ pub extern "C" fn captions_unpack(
 
 // Checks a track against a cue list.
 #[no_mangle]
-pub extern "C" fn captions_check(
+pub extern "C" fn captions_wvtt_check(
     scale: u32,
     t: u32,
     records: &[u8],
     pool: &[u8],
     table: &[u8],
     samples: &[u8],
-) -> Refusal
-    ensures { λ r. ⌜ r ≡ flatVerdict (conformance scale t (now (records .entry)) (now (pool .entry)) (now (table .entry)) (now (samples .entry))) ⌝ }
+) -> CaptionsChecked
+    ensures { λ r. ⌜ r ≡ flatChecked (checked scale t (now (records .entry)) (now (pool .entry)) (now (table .entry)) (now (samples .entry))) ⌝ }
 {
-    flat_verdict(conform::check_track(scale, t, records, pool, table, samples))
+    flat_checked(conform::check_track(scale, t, records, pool, table, samples))
 }
 
 #[no_mangle]
-pub extern "C" fn captions_judge_tx3g_entry(entry: &[u8]) -> Refusal
-    ensures { λ r. ⌜ r ≡ flatVerdict (judgeTimedText (now (entry .entry))) ⌝ }
+pub extern "C" fn captions_tx3g_read_entry(entry: &[u8]) -> CaptionsTx3gEntry
+    ensures { λ r. ⌜ r ≡ flatTx3gEntry (readTx3gEntry (now (entry .entry))) ⌝ }
 {
-    flat_verdict(tx3g_entry::judge_entry(entry))
+    flat_tx3g_entry(tx3g_read::read_entry(entry))
 }
 
-// A sample beside its entry: the character count, or whose fault it is (1 the entry's, 2 the sample's).
+// The font that stands at a byte of an entry.
 #[no_mangle]
-pub extern "C" fn captions_judge_tx3g_sample(entry: &[u8], sample: &[u8]) -> CaptionsTx3g
-    ensures { λ r. ⌜ r ≡ flatReading (readSample (now (entry .entry)) (now (sample .entry))) ⌝ }
+pub extern "C" fn captions_tx3g_font_at(entry: &[u8], at: usize) -> CaptionsFont
+    ensures { λ r. ⌜ r ≡ flatFont (fontIn (now (entry .entry)) at) ⌝ }
 {
-    flat_reading(tx3g_sample::read_sample(entry, sample))
+    flat_font(tx3g_read::font_at(entry, at))
+}
+
+// A sample beside its entry: its text, where its modifiers and styles stand, and the character count; or whose fault it is.
+#[no_mangle]
+pub extern "C" fn captions_tx3g_read_sample(entry: &[u8], sample: &[u8]) -> CaptionsTx3gSample
+    ensures { λ r. ⌜ r ≡ flatContent (contentOf (now (entry .entry)) (now (sample .entry))) ⌝ }
+{
+    flat_content(tx3g_read::read_content(entry, sample))
 }
 
 // The style of character k.
 #[no_mangle]
-pub extern "C" fn captions_style(entry: &[u8], sample: &[u8], k: usize) -> CaptionsStyle
+pub extern "C" fn captions_tx3g_style(entry: &[u8], sample: &[u8], k: usize) -> CaptionsStyle
     ensures { λ r. ⌜ r ≡ flatStyled (styleOf (now (entry .entry)) (now (sample .entry)) k) ⌝ }
 {
     flat_styled(tx3g_style::style_at(entry, sample, k))
 }
 
-// Where the eight bytes of the text box in force stand; a refusal is asked of the reading.
+// The run that begins at character k, where `styles` styles are left and the first of them stands at `styles_from`.
 #[no_mangle]
-pub extern "C" fn captions_text_box(entry: &[u8], sample: &[u8]) -> CaptionsTextBox
-    ensures { λ r. ⌜ r ≡ flatSpot (spotOf (now (entry .entry)) (now (sample .entry))) (readSample (now (entry .entry)) (now (sample .entry))) ⌝ }
+pub extern "C" fn captions_tx3g_next_run(
+    sample: &[u8],
+    styles: usize,
+    styles_from: usize,
+    k: usize,
+    characters: usize,
+) -> CaptionsRun
+    ensures { λ r. ⌜ r ≡ flatRun (nextRun (now (sample .entry)) styles «styles_from» k characters) k ⌝ }
 {
-    let p = tx3g_box::find_box(entry, sample);
-    match p {
-        Spot::Sample(at) => CaptionsTextBox {
-            refusal: fault_at(0, 0),
-            who: 0,
-            insample: true,
-            offset: at,
-        },
-        Spot::Entry => CaptionsTextBox {
-            refusal: fault_at(0, 0),
-            who: 0,
-            insample: false,
-            offset: 26,
-        },
-        Spot::Nowhere => {
-            let why = flat_reading(tx3g_sample::read_sample(entry, sample));
-            let refusal = why.refusal;
-            CaptionsTextBox {
-                refusal,
-                who: why.who,
-                insample: false,
-                offset: 0,
-            }
-        }
-    }
+    flat_run(
+        tx3g_runs::next_run(sample, styles, styles_from, k, characters),
+        k,
+    )
 }
 
-// Where the modifier boxes of a sample begin.
+// The text box in force: its four numbers, and where its eight bytes stand.
 #[no_mangle]
-pub extern "C" fn captions_modifiers_from(sample: &[u8]) -> usize
-    ensures { λ r. ⌜ r ≡ boxesFrom (now (sample .entry)) ⌝ }
+pub extern "C" fn captions_tx3g_text_box<'a>(entry: &'a [u8], sample: &'a [u8]) -> CaptionsTextBox
+    ensures { λ r. ⌜ r ≡ flatSpot (now (entry .entry)) (now (sample .entry)) (spotOf (now (entry .entry)) (now (sample .entry))) ⌝ }
 {
-    tx3g_modifiers::skip_text(sample)
+    let p = tx3g_box::find_box(entry, sample);
+    let bytes = tx3g_box::text_box(entry, sample, p);
+    match p {
+        Spot::Sample(at) => box_of(true, at, read_edges(bytes, 0)),
+        Spot::Entry => box_of(false, 26, read_edges(bytes, 0)),
+        Spot::BadEntry(why) => no_box(why, 1),
+        Spot::BadSample(why) => no_box(why, 2),
+    }
 }
 
 // The first modifier from `from` on, where a box begins, or the refusal of a header before it. By its kind: `styl` count and the styles from `from` on; `hlit`, `blnk` start and end;
 // `hclr` red, green, blue, alpha; `krok` start time, count and the entries; `dlay` time; `href` start, end, URL and alternative text; `tbox` the box; `twrp` the flag.
 #[no_mangle]
-pub extern "C" fn captions_next_modifier(sample: &[u8], from: usize) -> CaptionsModifier
+pub extern "C" fn captions_tx3g_next_modifier(sample: &[u8], from: usize) -> CaptionsModifier
     ensures { λ r. ⌜ r ≡ flatModified (nextModifier (now (sample .entry)) (boxesIn (now (sample .entry)) from (length (now (sample .entry))))) ⌝ }
 {
     flat_modified(tx3g_modifiers::next_modifier(sample, from))

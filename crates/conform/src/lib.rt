@@ -14,6 +14,7 @@ use times::tick_of;
 use track::duration_at;
 use track::judge_track;
 use track::size_at;
+use verdict::Refusal;
 use verdict::Verdict;
 use verdict::refused;
 use wvtt_cues::Held;
@@ -35,7 +36,7 @@ ghost use Rattle.wvtt_cues.specs.Cues.{textOf, heldBy, sampleCues};
 ghost use Rattle.wvtt_cues.specs.Walk.{Within, Inside, heldFrom};
 ghost use Rattle.track.specs.Track.{trackOf, judgeTrack};
 ghost use Rattle.conform.specs.Window.{Ended, Started, Later, Rises, Pooled, Reached, Around, standOf, Finds};
-ghost use Rattle.conform.specs.Conformance.{answered, conformance};
+ghost use Rattle.conform.specs.Conformance.{answered, trackVerdict, ofTrack, checked};
 
 // The ticks of a sample: from `begin` to before `end`.
 pub struct Stretch {
@@ -60,6 +61,13 @@ pub enum Stand {
 pub enum Met {
     On { next: usize },
     Differs,
+}
+
+// What the check answers: the track shows the list's cues, or whose fault it is that it does not.
+pub enum Checked {
+    Passed,
+    BadList(Refusal),
+    BadTrack(Refusal),
 }
 
 // The n bytes of the pool from a place are the text of a part.
@@ -308,6 +316,35 @@ fn check_samples(
     Verdict::Fine
 }
 
+// The track, beside a list without fault; then each sample against the list.
+fn check_beside(
+    scale: u32,
+    t: u32,
+    records: &[u8],
+    pool: &[u8],
+    table: &[u8],
+    samples: &[u8],
+) -> Verdict
+    requires { ⌜ Sound scale t (now records) (now pool) ⌝ }
+    ensures { λ r. ⌜ r ≡ trackVerdict scale t (now (records .entry)) (now (pool .entry)) (now (table .entry)) (now (samples .entry)) ⌝ }
+{
+    let v = judge_track(table, samples);
+    let Verdict::Fine = v else {
+        return v;
+    };
+    check_samples(scale, t, records, pool, table, samples)
+}
+
+// A verdict on the track, as an answer.
+fn of_track(v: Verdict) -> Checked
+    ensures { λ r. ⌜ r ≡ ofTrack v ⌝ }
+{
+    match v {
+        Verdict::Fine => Checked::Passed,
+        Verdict::Refused(why) => Checked::BadTrack(why),
+    }
+}
+
 // The check: the list, then the track, then each sample against the list.
 pub fn check_track(
     scale: u32,
@@ -316,16 +353,12 @@ pub fn check_track(
     pool: &[u8],
     table: &[u8],
     samples: &[u8],
-) -> Verdict
-    ensures { λ r. ⌜ r ≡ conformance scale t (now (records .entry)) (now (pool .entry)) (now (table .entry)) (now (samples .entry)) ⌝ }
+) -> Checked
+    ensures { λ r. ⌜ r ≡ checked scale t (now (records .entry)) (now (pool .entry)) (now (table .entry)) (now (samples .entry)) ⌝ }
 {
     let v = judge_list(scale, t, records, pool);
-    let Verdict::Fine = v else {
-        return v;
+    let Verdict::Refused(why) = v else {
+        return of_track(check_beside(scale, t, records, pool, table, samples));
     };
-    let v = judge_track(table, samples);
-    let Verdict::Fine = v else {
-        return v;
-    };
-    check_samples(scale, t, records, pool, table, samples)
+    Checked::BadList(why)
 }

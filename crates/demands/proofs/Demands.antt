@@ -2,10 +2,15 @@
 use Prim.Native.Nat.{ℕ}
 use mathlib.Core.Path.{_≡_, refl, sym, ap, ap₂, _∙_, subst}
 use mathlib.Core.List.{List}
+use mathlib.Core.Logic.{_↔_}
 use native.Mathlib.Omega.{arith}
+use borrow.Author.Tests.{lt-ltb, le-ltb}
 use lib.ListN.{length, take, drop}
 use Rattle.base.proofs.Over.{take-over, drop-over}
-use Rattle.verdict.specs.declared.Verdict.the-variants.{Fine}
+use Rattle.verdict.specs.declared.Refusal.{Refusal}
+use Rattle.verdict.specs.declared.Verdict.{Verdict}
+use Rattle.verdict.specs.declared.Verdict.the-variants.{Fine, Refused as Refuses}
+use Rattle.verdict.specs.Judgement.{fault}
 use Rattle.verdict.proofs.Judgement.{both-fine}
 use Rattle.times.specs.Times.{tick}
 use Rattle.timeline.specs.Tracks.{Right}
@@ -20,15 +25,19 @@ use Rattle.cues.proofs.Sound.{fine-proper}
 use Rattle.track.specs.Track.{rowCount, trackOf, judgeTrack, Readable}
 use Rattle.track.proofs.Laws.{fine-readable, readable-fine}
 use Rattle.track.proofs.Samples.{length-track, rows-positive, positive-rows}
-use Rattle.pack.specs.declared.Packed.the-variants.{Done}
-use Rattle.pack.specs.Packing.{packedTrack, tableBytes, samplesBytes}
+use Rattle.pack.specs.declared.Packed.{Packed}
+use Rattle.pack.specs.declared.Packed.the-variants.{Done, Refused}
+use Rattle.pack.specs.Packing.{packedTrack, tableBytes, samplesBytes, packRoom, roomed, packedOf}
 use Rattle.pack.proofs.Answers.{packs, done-means}
 use Rattle.pack.proofs.Track.{packed-is-right, samples-most, reads-back, packed-readable}
-use Rattle.conform.specs.Conformance.{conformance}
+use Rattle.conform.specs.declared.Checked.{Checked}
+use Rattle.conform.specs.declared.Checked.the-variants.{Passed, BadList, BadTrack}
+use Rattle.conform.specs.Conformance.{conformance, ofTrack, checked, verdictOf}
+use Rattle.conform.proofs.Blame.{verdict-is, passes, track-at-fault, list-at-fault}
 use Rattle.conform.proofs.Exactly.{answers-exactly}
-use Rattle.demands.specs.Calls.{PackCall}
-use Rattle.demands.specs.Packing.{Written, PackingWrites, RefusedPackingKeeps, PackingIsDone}
-use Rattle.demands.specs.Checking.{Conforms, AcceptsExactly, DiffersExactly, EndsEarlyExactly, HonestPasses, OwnPasses, FewestSamples}
+use Rattle.demands.specs.Calls.{PackCall, CheckCall}
+use Rattle.demands.specs.Packing.{Written, PackingWrites, RefusedPackingKeeps, PackingIsDone, Tells, PackRoomTells}
+use Rattle.demands.specs.Checking.{Conforms, AcceptsExactly, BlamesExactly, DiffersExactly, EndsEarlyExactly, HonestPasses, OwnPasses, FewestSamples}
 
 -- ---- demand 2: packing
 
@@ -102,6 +111,14 @@ pub packing-is-done : PackingIsDone
 unfolding packedTrack
 packing-is-done scale T records pool table samples tableAfter samplesAfter answer c fine h k = c .answers ∙ packs scale T records pool (length table) (length samples) fine h k
 
+tells : (p : Packed) (a c : ℕ) (answer : Packed) → answer ≡ roomed a c p → Tells p a c answer
+tells (Refused r) a c answer e = e
+tells (Done n t b) a c answer e = ((λ h k. e ∙ rw (le-ltb a t h, le-ltb c b k)), (λ h. e ∙ rw (lt-ltb a t h)), λ h k. e ∙ rw (le-ltb a t h, lt-ltb c b k))
+
+pub pack-room-tells : PackRoomTells
+unfolding packedOf
+pack-room-tells scale T records pool table samples tableAfter samplesAfter answer c = tells (packRoom scale T records pool) (length table) (length samples) answer (c .answers)
+
 -- ---- demand 3: the check
 
 right-conforms : (scale T : ℕ) (records pool table samples : List ℕ) → Readable table samples → Right (cuesOf scale records pool) (tick scale T) (trackOf table samples)
@@ -121,30 +138,56 @@ accepted-list : (scale T : ℕ) (records pool table samples : List ℕ) → conf
 unfolding conformance
 accepted-list scale T records pool table samples e = both-fine (judgeList scale T records pool) _ e .0
 
+module _ (scale T : ℕ) (records pool table samples : List ℕ) (answer : Checked) (c : CheckCall scale T records pool table samples answer) where
+  verdict-of : (x : Checked) → answer ≡ x → conformance scale T records pool table samples ≡ verdictOf x
+  verdict-of x e = sym (verdict-is scale T records pool table samples) ∙ ap verdictOf (sym (c .answers) ∙ e)
+
 pub accepts-exactly : AcceptsExactly
 accepts-exactly scale T records pool table samples answer c = (
-  (λ e. let q = sym (c .answers) ∙ e in
+  (λ e. let q = verdict-of scale T records pool table samples answer c Passed e in
       let fine = accepted-list scale T records pool table samples q in
       let reads = accepted-reads scale T records pool table samples q in
       (fine, right-conforms scale T records pool table samples (fine-readable table samples reads .0) (answers-exactly scale T records pool table samples fine reads accepted tt .0 q))),
   λ w. let v = w .1 in
-      c .answers ∙ answers-exactly scale T records pool table samples (w .0) (readable-fine table samples (v .readable) (v .positive)) accepted tt .1 (conforms-right scale T records pool table samples v),
+      c .answers ∙ passes scale T records pool table samples
+      (answers-exactly scale T records pool table samples (w .0) (readable-fine table samples (v .readable) (v .positive)) accepted tt .1 (conforms-right scale T records pool table samples v)),
 )
+
+pub blames-exactly : BlamesExactly
+blames-exactly scale T records pool table samples answer c r = go (judgeList scale T records pool) refl
+  where
+    list-is : (q : Refusal) → judgeList scale T records pool ≡ Refuses q → answer ≡ BadList q
+    list-is q f = c .answers ∙ list-at-fault scale T records pool table samples q f
+
+    track-is-blamed : judgeList scale T records pool ≡ Fine → answer ≡ ofTrack (conformance scale T records pool table samples)
+    track-is-blamed f = c .answers ∙ track-at-fault scale T records pool table samples f
+
+    no-list : (v : Verdict) → answer ≡ ofTrack v → answer ≡ BadList r → _≡_ {A = ℕ} 0 1
+    no-list Fine e q = cc
+    no-list (Refuses x) e q = cc
+
+    go : (v : Verdict) → judgeList scale T records pool ≡ v → ((answer ≡ BadList r) ↔ (judgeList scale T records pool ≡ Refuses r)) × (answer ≡ BadTrack r → judgeList scale T records pool ≡ Fine)
+    go Fine f = (((λ e. absurd (omega (arith, no-list (conformance scale T records pool table samples) (track-is-blamed f) e))), list-is r), λ e. f)
+    go (Refuses q) f = (
+      ((λ e. let z = list-is q f in let w : q ≡ r = cc in f ∙ ap Refuses w), list-is r),
+      λ e. let z = list-is q f in let k : _≡_ {A = ℕ} 0 1 = cc in absurd (omega arith),
+    )
 
 pub differs-exactly : DiffersExactly
 differs-exactly scale T records pool table samples answer c fine reads i l =
     let m = answers-exactly scale T records pool table samples fine reads (wrong i) l in
     let n = length-track table samples in (
-      (λ e. let w = m .0 (sym (c .answers) ∙ e) in (w .1, λ j k. good-not-bad _ _ _ j (w .2 j k))),
-      λ w. c .answers ∙ m .1 (omega arith, w .0, λ j k. not-bad-good (cuesOf scale records pool) (tick scale T) (trackOf table samples) j (w .1 j k)),
+      (λ e. let w = m .0 (verdict-of scale T records pool table samples answer c (BadTrack (fault 16 i)) e) in (w .1, λ j k. good-not-bad _ _ _ j (w .2 j k))),
+      λ w. c .answers ∙ track-at-fault scale T records pool table samples fine
+          ∙ ap ofTrack (m .1 (omega arith, w .0, λ j k. not-bad-good (cuesOf scale records pool) (tick scale T) (trackOf table samples) j (w .1 j k))),
     )
 
 pub ends-early-exactly : EndsEarlyExactly
 ends-early-exactly scale T records pool table samples answer c fine reads =
     let m = answers-exactly scale T records pool table samples fine reads (short (rowCount table)) refl in
     let n = length-track table samples in (
-      (λ e. let w = m .0 (sym (c .answers) ∙ e) in ((λ j l. w .1 j (omega arith)), w .2)),
-      λ w. c .answers ∙ m .1 (sym n, (λ j l. w .0 j (omega arith)), w .1),
+      (λ e. let w = m .0 (verdict-of scale T records pool table samples answer c (BadTrack (fault 16 (rowCount table))) e) in ((λ j l. w .1 j (omega arith)), w .2)),
+      λ w. c .answers ∙ track-at-fault scale T records pool table samples fine ∙ ap ofTrack (m .1 (sym n, (λ j l. w .0 j (omega arith)), w .1)),
     )
 
 pub honest-passes : HonestPasses
@@ -164,7 +207,7 @@ pub fewest-samples : FewestSamples
 unfolding packedTrack
 fewest-samples scale T records pool table samples tableAfter samplesAfter n t b p others bytes c =
     let f = fine scale T records pool table samples tableAfter samplesAfter n t b p in
-    let w = accepts-exactly scale T records pool others bytes Fine c .0 refl .1 in
+    let w = accepts-exactly scale T records pool others bytes Passed c .0 refl .1 in
     omega (
       arith,
       samples-counted scale T records pool table samples tableAfter samplesAfter n t b p,

@@ -45,10 +45,10 @@ use Rattle.cues.specs.Judgement.{badValue, tooLong, pastPool, judgeTexts, badTi
 use Rattle.cues.specs.List.{cuesOf}
 use Rattle.track.specs.Track.{rowCount, durationOf, sizeOf, offsetOf, bytesOf, trackOf, placedAt, judgeRow, judgeTrack}
 use Rattle.timeline.specs.Checking.{Answer, accepted, wrong, short, check}
-use Rattle.conform.specs.Conformance.{answered, conformance}
+use Rattle.conform.specs.Conformance.{answered, trackVerdict, ofTrack, unlessList, checked}
 use Rattle.pack.specs.declared.Packed.{Packed}
 use Rattle.pack.specs.declared.Packed.the-variants.{Done, Refused as NotPacked}
-use Rattle.pack.specs.Packing.{packedTrack, tableBytes, samplesBytes, roomed, unlessFaulty, packedOf}
+use Rattle.pack.specs.Packing.{packedTrack, tableBytes, samplesBytes, sizesOf, unlessFaulty, packRoom, roomed, packedOf}
 use Rattle.signed.specs.Signed.{ordered}
 use Rattle.tx3g_contents.specs.Kinds.{styl, krok, tbox, twrp, ranged, known as knownKind, single as singleKind}
 use Rattle.tx3g_contents.specs.Contents.{contentEnd}
@@ -59,14 +59,18 @@ use Rattle.tx3g_sample.specs.declared.Reading.{Reading}
 use Rattle.tx3g_sample.specs.declared.Reading.the-variants.{Good, BadEntry, BadSample}
 use Rattle.tx3g_sample.specs.Sample.{textEnd, counted, countedAt, charactersIn, fontsIn, judgeText as judgeTx3gText, inSample as inTx3gSample, modifiersOf, judgeModifiers, judgeSample as judgeTx3gSample, answerOf, readSample, verdictOf}
 use Rattle.unpack_write.specs.Records.{recordsOf, poolOf}
-use Rattle.unpack.specs.declared.Unpacked.the-variants.{Done as Unpacks}
-use Rattle.unpack.specs.Unpacking.{trackCues, trackMs, badTimes, judgeTimes, judgeEnd, judgeUnpack, stopsAt, answerBy, doneWith, unpackOf}
+use Rattle.unpack.specs.declared.Unpacked.{Unpacked}
+use Rattle.unpack.specs.declared.Unpacked.the-variants.{Done as Unpacks, Refused as NotUnpacked}
+use Rattle.unpack.specs.Unpacking.{trackCues, trackMs, badTimes, judgeTimes, judgeEnd, judgeUnpack, stopsAt, answerBy, doneWith, unpackRoom, roomed as roomedList, unpackOf}
 use Rattle.tx3g_modifiers.specs.declared.Held.the-variants.{One}
 use Rattle.tx3g_modifiers.specs.Modifiers.{whole, modifierOf, nextModifier}
 use Rattle.tx3g_style.specs.declared.Styled.the-variants.{BadSample as SampleOf}
 use Rattle.tx3g_style.specs.Style.{inForce, stylesOf, styledBy, styleOf, faultOf}
-use Rattle.demands.specs.Offsets.{bodyAt, Inside, InSample, InEntry, InRecord, InTrack, InText, InTx3g, Never}
-use Rattle.demands.specs.Refusals.{InTable, Listed, packing, unpacking, ofCue, ofModifier, RefusalsAre}
+use Rattle.wvtt_entry_write.specs.declared.Written.the-variants.{Done as WrittenDone, Refused as NotWritten}
+use Rattle.wvtt_entry_write.specs.Writing.{entrySize, judgeLabel, judgeTexts as judgeEntryTexts, judgeWritten, unlessFaulty as unlessWritten, roomOf, lent, writtenOf}
+use Rattle.tx3g_box.specs.TextBox.{boxesOf, spotIn, spotBy, spotOf}
+use Rattle.demands.specs.Offsets.{bodyAt, Inside, InSample, InEntry, InWritten, InRecord, InTrack, InText, InTx3g, Never}
+use Rattle.demands.specs.Refusals.{InTable, Listed, CheckListed, packing, unpacking, writing, ofBox, ofCue, ofModifier, RefusalsAre}
 use Rattle.demands.proofs.Offsets.{offsets-are}
 
 -- ---- judgements
@@ -110,10 +114,6 @@ boxes-stand (suc f) s from end l = stand-on s from end (stepAt s from end) (λ n
 standing : (s : List ℕ) (from end : ℕ) → end ≤ length s → Standing s (boxesIn s from end)
 unfolding boxesIn
 standing s from end l = boxes-stand (suc end) s from end l
-
-weaken : (Says Worse : ℕ → ℕ → Type 0) (v : Verdict) → ((p q : ℕ) → Says p q → Worse p q) → Listed Says v → Listed Worse v
-weaken Says Worse Fine f h = tt
-weaken Says Worse (Refused r) f h = (h .0, h .1, λ e. f (r .place) (r .offset) (h .2 e))
 
 -- a text: 6 is its first bad byte
 module _ (Says : ℕ → ℕ → Type 0) where
@@ -363,16 +363,11 @@ module _ (Says : ℕ → ℕ → Type 0) where
   stops-listed (stopped n i) h = given true n i h
   stops-listed (done cs) h = tt
 
-  end-of-listed : (scale T : ℕ) (cs : List Cue) (records pool : ℕ) → Listed Says (judgeEnd scale T cs records pool)
+  end-of-listed : (scale T : ℕ) (cs : List Cue) → Listed Says (judgeEnd scale T cs)
   unfolding judgeEnd judgeTimes
-  end-of-listed scale T cs records pool =
+  end-of-listed scale T cs =
       next (each (judgeTimes scale cs) (length cs)) _ (all (judgeTimes scale cs) (length cs) (λ i l. given (badTimes scale (getD cs i noCue .start) (getD cs i noCue .end)) 10 i refl))
-      (more (not (timelineAllowed scale T)) 10 (length cs) _ refl
-      (more (ltb records (length (recordsOf scale cs))) 15 0 _ refl (given (ltb pool (length (poolOf cs))) 15 1 refl)))
-
-  answer-listed : (v : Verdict) (n p T : ℕ) → Listed Says v → Listed Says (unpacking (answerBy v (Unpacks n p T)))
-  answer-listed Fine n p T h = tt
-  answer-listed (Refused r) n p T h = h
+      (given (not (timelineAllowed scale T)) 10 (length cs) refl)
 
 -- ---- texts
 
@@ -486,41 +481,52 @@ track-listed table samples =
     (placed-listed (InSample (bytesOf table samples i)) (InTrack table samples) i (judgeSample (bytesOf table samples i)) (λ p q b. (l, (p, b))) (sample-listed (bytesOf table samples i)))))))
     (given (InTrack table samples) (ltb (offsetOf table (rowCount table)) (length samples)) 2 (rowCount table) refl)))
 
--- of the list, or of the track
-Both : List ℕ → List ℕ → List ℕ → List ℕ → ℕ → ℕ → Type 0
-Both records pool table samples p q = InRecord records pool p q ⊎ InTrack table samples p q
-
-check-listed : (scale T : ℕ) (records pool table samples : List ℕ) → Listed (λ p q. InRecord records pool p q ⊎ InTrack table samples p q) (conformance scale T records pool table samples)
-unfolding conformance Both
+check-listed : (scale T : ℕ) (records pool table samples : List ℕ) → CheckListed records pool table samples (checked scale T records pool table samples)
+unfolding checked
 check-listed scale T records pool table samples =
-    next (Both records pool table samples) (judgeList scale T records pool) _ (weaken (InRecord records pool) (Both records pool table samples) (judgeList scale T records pool) (λ p q b. inl b) (list-listed scale T records pool))
-    (next (Both records pool table samples) (judgeTrack table samples) _ (weaken (InTrack table samples) (Both records pool table samples) (judgeTrack table samples) (λ p q b. inr b) (track-listed table samples)) (answered-listed (Both records pool table samples) (check (cuesOf scale records pool) (tick scale T) (trackOf table samples))))
+    go (judgeList scale T records pool) (trackVerdict scale T records pool table samples) (list-listed scale T records pool)
+    (next (InTrack table samples) (judgeTrack table samples) _ (track-listed table samples) (answered-listed (InTrack table samples) (check (cuesOf scale records pool) (tick scale T) (trackOf table samples))))
+  where
+    go : (v w : Verdict) → Listed (InRecord records pool) v → Listed (InTrack table samples) w → CheckListed records pool table samples (unlessList v (ofTrack w))
+    go (Refused r) w h k = h
+    go Fine (Refused r) h k = k
+    go Fine Fine h k = tt
 
 -- ---- packing and unpacking
 
 pack-listed : (scale T : ℕ) (records pool : List ℕ) (tableRoom samplesRoom : ℕ) → Listed (InRecord records pool) (packing (packedOf scale T records pool tableRoom samplesRoom))
-unfolding packedOf roomed fault
+unfolding packedOf packRoom sizesOf fault
 pack-listed scale T records pool tableRoom samplesRoom =
     let track = packedTrack scale T records pool in
-    list (judgeList scale T records pool) (list-listed scale T records pool) (ltb tableRoom (length (tableBytes track))) (ltb samplesRoom (length (samplesBytes track)))
-    (Done (length track) (length (tableBytes track)) (length (samplesBytes track))) tt
+    list (judgeList scale T records pool) (list-listed scale T records pool) (length track) (length (tableBytes track)) (length (samplesBytes track))
   where
-    list : (v : Verdict) → Listed (InRecord records pool) v → (a b : Bool) (d : Packed) → Listed (InRecord records pool) (packing d)
-        → Listed (InRecord records pool) (packing (unlessFaulty v (pick a (NotPacked (fault 15 0)) (pick b (NotPacked (fault 15 1)) d))))
-    list (Refused r) h a b d k = h
-    list Fine h true b d k = given (InRecord records pool) true 15 0 refl
-    list Fine h false true d k = given (InRecord records pool) true 15 1 refl
-    list Fine h false false d k = k
+    room : (a b : Bool) (d : Packed) → Listed (InRecord records pool) (packing d) → Listed (InRecord records pool) (packing (pick a (NotPacked (fault 15 0)) (pick b (NotPacked (fault 15 1)) d)))
+    room true b d k = given (InRecord records pool) true 15 0 refl
+    room false true d k = given (InRecord records pool) true 15 1 refl
+    room false false d k = k
+
+    list : (v : Verdict) → Listed (InRecord records pool) v → (n t m : ℕ) → Listed (InRecord records pool) (packing (roomed tableRoom samplesRoom (unlessFaulty v (Done n t m))))
+    list (Refused r) h n t m = h
+    list Fine h n t m = room (ltb tableRoom t) (ltb samplesRoom m) (Done n t m) tt
 
 unpack-listed : (scale : ℕ) (table samples : List ℕ) (recordsRoom poolRoom : ℕ) → Listed (InTrack table samples) (unpacking (unpackOf scale table samples recordsRoom poolRoom))
-unfolding unpackOf judgeUnpack doneWith unpack
+unfolding unpackOf unpackRoom judgeUnpack doneWith unpack fault
 unpack-listed scale table samples recordsRoom poolRoom =
     let cs = trackCues table samples in
-    answer-listed (InTrack table samples) (judgeUnpack scale table samples recordsRoom poolRoom) (length (recordsOf scale cs)) (length (poolOf cs)) (trackMs scale table samples)
+    list (judgeUnpack scale table samples) (length (recordsOf scale cs)) (length (poolOf cs)) (trackMs scale table samples)
     (more (InTrack table samples) (not (scaleAllowed scale)) 10 0 _ refl
     (next (InTrack table samples) (judgeTrack table samples) _ (track-listed table samples)
     (next (InTrack table samples) (stopsAt (unpack (trackOf table samples))) _ (stops-listed (InTrack table samples) (unpack (trackOf table samples)) (read-from-listed 0 0 [] [] (trackOf table samples)))
-    (end-of-listed (InTrack table samples) scale (trackMs scale table samples) cs recordsRoom poolRoom))))
+    (end-of-listed (InTrack table samples) scale (trackMs scale table samples) cs))))
+  where
+    room : (a b : Bool) (d : Unpacked) → Listed (InTrack table samples) (unpacking d) → Listed (InTrack table samples) (unpacking (pick a (NotUnpacked (fault 15 0)) (pick b (NotUnpacked (fault 15 1)) d)))
+    room true b d k = given (InTrack table samples) true 15 0 refl
+    room false true d k = given (InTrack table samples) true 15 1 refl
+    room false false d k = k
+
+    list : (v : Verdict) (n p T : ℕ) → Listed (InTrack table samples) v → Listed (InTrack table samples) (unpacking (roomedList recordsRoom poolRoom (answerBy v (Unpacks n p T))))
+    list (Refused r) n p T h = h
+    list Fine n p T h = room (ltb recordsRoom n) (ltb poolRoom p) (Unpacks n p T) tt
 
 -- ---- `tx3g` samples
 
@@ -553,6 +559,46 @@ style-listed : (e s : List ℕ) (k : ℕ) → Listed (InTx3g s) (faultOf (styleO
 unfolding styleOf
 style-listed e s k = styled-listed e s k (readSample e s) (read-listed e s)
 
+box-listed : (e s : List ℕ) → Listed (InTx3g s) (ofBox (spotOf e s))
+unfolding spotOf boxesOf BodyListed
+box-listed e s = go (readSample e s) (read-listed e s)
+  where
+    stands : (t : BoxBody) → BodyListed (InTx3g s) t → Listed (InTx3g s) (ofBox (spotIn t))
+    stands Nowhere g = tt
+    stands (NoBody r) g = g
+    stands (At b) g = tt
+
+    go : (r : Reading) → Listed (InTx3g s) (verdictOf r) → Listed (InTx3g s) (ofBox (spotBy s r))
+    go (BadEntry r) h = h
+    go (BadSample r) h = h
+    go (Good n) h = stands (boxesOf s) (found-listed (InTx3g s) tbox (boxesIn s (textEnd s) (length s)) (boxes-listed (InTx3g s) s (textEnd s) (length s)))
+
+-- ---- an entry that is written
+
+written-listed : (c : List ℕ) (l : Option (List ℕ)) → Listed (InWritten c l) (judgeWritten c l)
+unfolding judgeWritten judgeEntryTexts
+written-listed c l =
+    more (InWritten c l) (ltb 4294967295 (entrySize c l)) 9 0 _ refl
+    (after (InWritten c l) (textAt 0 (judgedBy configurationText configurationBegun c)) _
+    (text-at-listed (InWritten c l) configurationText configurationBegun (offsets-are .configuration) 0 c (λ q f. inl (refl, f)))
+    (λ a. label l refl (text-fine configurationText configurationBegun 0 c a)))
+  where
+    label : (m : Option (List ℕ)) → l ≡ m → Passes configurationText c → Listed (InWritten c l) (judgeLabel m)
+    label none e a = tt
+    label (some t) e a = text-at-listed (InWritten c l) labelText labelBegun (offsets-are .label) 1 t (λ q f. inr (refl, a, t, e, f))
+
+write-listed : (c : List ℕ) (l : Option (List ℕ)) (room : ℕ) → Listed (InWritten c l) (writing (writtenOf c l room))
+unfolding writtenOf roomOf fault
+write-listed c l room = go (judgeWritten c l) (written-listed c l)
+  where
+    short : (t : Bool) (n : ℕ) → Listed (InWritten c l) (writing (pick t (NotWritten (fault 15 0)) (WrittenDone n)))
+    short true n = given (InWritten c l) true 15 0 refl
+    short false n = tt
+
+    go : (v : Verdict) → Listed (InWritten c l) v → Listed (InWritten c l) (writing (lent (unlessWritten v (entrySize c l)) room))
+    go (Refused r) h = h
+    go Fine h = short (ltb room (entrySize c l)) (entrySize c l)
+
 -- ---- all of them
 
 pub refusals-are : RefusalsAre
@@ -562,6 +608,7 @@ refusals-are = record {
   sample = sample-listed;
   cue = λ s from. next-cue-listed Never s (boxesIn s from (length s)) (boxes-listed Never s from (length s));
   entry = entry-listed;
+  write-entry = write-listed;
   list = list-listed;
   track = track-listed;
   check = check-listed;
@@ -571,4 +618,5 @@ refusals-are = record {
   tx3g-sample = read-listed;
   modifier = λ s from. next-modifier-listed Never s (boxesIn s from (length s)) (boxes-listed Never s from (length s));
   style = style-listed;
+  text-box = box-listed;
 }

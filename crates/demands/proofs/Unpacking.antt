@@ -7,7 +7,7 @@ use native.Mathlib.Omega.{arith}
 use lib.ListN.{length, take, drop, getD, length-append, length-take, length-drop}
 use Rattle.base.proofs.Over.{take-over, drop-over}
 use Rattle.verdict.specs.declared.Verdict.the-variants.{Fine}
-use borrow.Author.Tests.{le-ltb, lt-leb}
+use borrow.Author.Tests.{lt-ltb, le-ltb, lt-leb}
 use Rattle.verdict.proofs.Judgement.{each-all}
 use Rattle.times.specs.Times.{back}
 use Rattle.times.proofs.Laws.{limits-timeline}
@@ -22,14 +22,16 @@ use Rattle.track.specs.Track.{trackOf}
 use Rattle.track.proofs.Laws.{fine-readable, readable-fine}
 use Rattle.track.proofs.Samples.{track-positive, positive-rows}
 use Rattle.conform.specs.Conformance.{conformance}
+use Rattle.conform.proofs.Blame.{passes}
 use Rattle.unpack_write.specs.Records.{idOf, textsOf, poolTo, recordsOf, poolOf}
-use Rattle.unpack.specs.declared.Unpacked.the-variants.{Done}
-use Rattle.unpack.specs.Unpacking.{trackCues, trackMs, badTimes, judgeTimes, judgeEnd, doneWith, unpackOf}
+use Rattle.unpack.specs.declared.Unpacked.{Unpacked}
+use Rattle.unpack.specs.declared.Unpacked.the-variants.{Done, Refused}
+use Rattle.unpack.specs.Unpacking.{trackCues, trackMs, badTimes, judgeTimes, judgeEnd, doneWith, unpackRoom, roomed, unpackOf}
 use Rattle.unpack.proofs.Laws.{list-done}
 use Rattle.unpack_laws.proofs.Reading.{length-recs, count-recs, id-read, start-read, end-read, offset-read, identifier-read, settings-read, payload-read, identifier-is, settings-is, payload-is}
 use Rattle.unpack_laws.proofs.Theorems.{scale-fine, success, listed-so, fits, given-at, unpacked-fine, check-accepts, comes-back, same-record, same-length}
 use Rattle.demands.specs.Calls.{UnpackCall}
-use Rattle.demands.specs.Unpacking.{SameCues, textBytes, ComesBack, TrackList, UnpackingWrites, UnpackingIsDone, RefusedUnpackingKeeps, UnpackedIsFine, UnpackedPasses}
+use Rattle.demands.specs.Unpacking.{SameCues, textBytes, ComesBack, TrackList, UnpackingWrites, UnpackingIsDone, Tells, UnpackRoomTells, RefusedUnpackingKeeps, UnpackedIsFine, UnpackedPasses}
 use Rattle.demands.proofs.Demands.{fine, track-is, track-readable, track-right}
 
 -- ---- what a call that is done has written
@@ -120,7 +122,7 @@ unpacking-writes scale table samples records pool recordsAfter poolAfter n p T c
 )
 
 pub unpacking-is-done : UnpackingIsDone
-unfolding judgeEnd judgeTimes badTimes doneWith trackMs
+unfolding unpackOf judgeEnd judgeTimes badTimes doneWith trackMs
 unpacking-is-done scale table samples records pool recordsAfter poolAfter answer cs c reads list limits times ra rb =
     let a = length records in
     let b = length pool in
@@ -129,8 +131,16 @@ unpacking-is-done scale table samples records pool recordsAfter poolAfter answer
     let w = times i l in
     rw (le-ltb 359999999 (back scale (getD cs i noCue .start)) (omega (arith, w .0, w .1)), le-ltb 359999999 (back scale (getD cs i noCue .end)) (w .1), lt-leb (back scale (getD cs i noCue .end)) (back scale (getD cs i noCue .start)) (w .0)) in
     c .answers
-    ∙ sym (list-done scale table samples a b (scale-fine scale _ limits) reads cs (sym u))
+    ∙ ap (roomed a b) (sym (list-done scale table samples (scale-fine scale _ limits) reads cs (sym u)))
     ∙ (rw (each-all (judgeTimes scale cs) (length cs) good, limits-timeline scale _ limits, le-ltb a (length (recordsOf scale cs)) ra, le-ltb b (length (poolOf cs)) rb))
+
+tells : (u : Unpacked) (a b : ℕ) (answer : Unpacked) → answer ≡ roomed a b u → Tells u a b answer
+tells (Refused r) a b answer e = e
+tells (Done n p t) a b answer e = ((λ h k. e ∙ rw (le-ltb a n h, le-ltb b p k)), (λ h. e ∙ rw (lt-ltb a n h)), λ h k. e ∙ rw (le-ltb a n h, lt-ltb b p k))
+
+pub unpack-room-tells : UnpackRoomTells
+unfolding unpackOf
+unpack-room-tells scale table samples records pool recordsAfter poolAfter answer c = tells (unpackRoom scale table samples) (length records) (length pool) answer (c .answers)
 
 pub refused-unpacking-keeps : RefusedUnpackingKeeps
 refused-unpacking-keeps scale table samples records pool recordsAfter poolAfter r c = (c .records-hold, c .pool-holds)
@@ -147,9 +157,9 @@ unpacked-passes scale table samples records pool recordsAfter poolAfter n p T an
     let a = length records in
     let b = length pool in
     let cs = trackCues table samples in
-    k .answers
-    ∙ ap₂ (λ (x y : List ℕ). conformance scale T x y table samples) (records-are scale table samples records pool recordsAfter poolAfter n p T c) (pool-is scale table samples records pool recordsAfter poolAfter n p T c)
-    ∙ (rw (unpacked-fine scale table samples a b n p T e, success scale table samples a b n p T e .fine, check-accepts scale table samples a b n p T e small))
+    k .answers ∙ passes scale T _ _ table samples
+    (ap₂ (λ (x y : List ℕ). conformance scale T x y table samples) (records-are scale table samples records pool recordsAfter poolAfter n p T c) (pool-is scale table samples records pool recordsAfter poolAfter n p T c)
+    ∙ (rw (unpacked-fine scale table samples a b n p T e, success scale table samples a b n p T e .fine, check-accepts scale table samples a b n p T e small)))
 
 -- ---- demand 2's way back
 

@@ -4,10 +4,10 @@ use Prim.Native.Nat.{ℕ}
 use mathlib.Core.Path.{_≡_}
 use mathlib.Core.List.{List}
 use lib.ListN.{length}
-use Rattle.verdict.specs.declared.Verdict.{Verdict}
 use Rattle.pack.specs.declared.Packed.{Packed}
 use Rattle.pack.specs.Packing.{packedTrack, tableBytes, samplesBytes, packedOf, after}
-use Rattle.conform.specs.Conformance.{conformance}
+use Rattle.conform.specs.declared.Checked.{Checked}
+use Rattle.conform.specs.Conformance.{checked}
 use Rattle.unpack_write.specs.Records.{recordsOf, poolOf}
 use Rattle.unpack.specs.declared.Unpacked.{Unpacked}
 use Rattle.unpack.specs.Unpacking.{trackCues, unpackOf, outOf}
@@ -19,8 +19,8 @@ pub record PackCall (scale T : ℕ) (records pool table samples tableAfter sampl
   pub samples-hold : samplesAfter ≡ after answer (samplesBytes (packedTrack scale T records pool)) samples
 
 -- `conform::check_track`, which writes nothing
-pub record CheckCall (scale T : ℕ) (records pool table samples : List ℕ) (answer : Verdict) : Type 0 where
-  pub answers : answer ≡ conformance scale T records pool table samples
+pub record CheckCall (scale T : ℕ) (records pool table samples : List ℕ) (answer : Checked) : Type 0 where
+  pub answers : answer ≡ checked scale T records pool table samples
 
 -- `unpack::unpack`, which is lent records and a pool to write
 pub record UnpackCall (scale : ℕ) (table samples records pool recordsAfter poolAfter : List ℕ) (answer : Unpacked) : Type 0 where

@@ -5,6 +5,7 @@ use mathlib.Core.Path.{_≡_}
 use mathlib.Core.Logic.{_⊎_}
 use mathlib.Core.Bool.{true}
 use mathlib.Core.List.{List}
+use mathlib.Core.Option.{Option, some}
 use lib.ListN.{length}
 use Rattle.viable.specs.FirstBad.{FirstBad, Passes, JudgedIs}
 use Rattle.fields.specs.BigEndian.{be}
@@ -53,6 +54,12 @@ InEntry e p q =
     Inside e p
     × (((typeAt e p ≡ vttC) × FirstBad (Passes configurationText) (bodyAt e p) q)
     ⊎ ((typeAt e p ≡ vlab) × FirstBad (Passes labelText) (bodyAt e p) q))
+
+-- of an entry that is to be written: the configuration at place 0, or else the label at place 1
+abbrev pub InWritten : List ℕ → Option (List ℕ) → ℕ → ℕ → Type 0
+InWritten c l p q =
+    ((p ≡ 0) × FirstBad (Passes configurationText) c q)
+    ⊎ ((p ≡ 1) × Passes configurationText c × (t : List ℕ) × (l ≡ some t) × FirstBad (Passes labelText) t q)
 
 -- of a list: q is the first bad byte of the first bad one of the texts of record i
 abbrev pub InRecord : List ℕ → List ℕ → ℕ → ℕ → Type 0

@@ -1,10 +1,11 @@
 -- Demand 2 for packing: what is written is exactly the track that document 01 defines, each time rounded once from its full value; and nothing else is touched.
-use Prim.Native.Nat.{ℕ, _+_, _*_, _≤_}
+use Prim.Native.Nat.{ℕ, _+_, _*_, _≤_, _<_}
 use mathlib.Core.Path.{_≡_}
 use mathlib.Core.List.{List}
 use lib.ListN.{length, take, drop}
 use Rattle.verdict.specs.declared.Refusal.{Refusal}
 use Rattle.verdict.specs.declared.Verdict.the-variants.{Fine}
+use Rattle.verdict.specs.Judgement.{fault}
 use Rattle.times.specs.Times.{tick}
 use Rattle.timeline.specs.Tracks.{Right}
 use Rattle.timeline.specs.Packing.{packed}
@@ -14,7 +15,7 @@ use Rattle.cues.specs.List.{cuesOf}
 use Rattle.track.specs.Track.{rowCount, trackOf, Readable}
 use Rattle.pack.specs.declared.Packed.{Packed}
 use Rattle.pack.specs.declared.Packed.the-variants.{Done, Refused}
-use Rattle.pack.specs.Packing.{tableBytes, samplesBytes}
+use Rattle.pack.specs.Packing.{tableBytes, samplesBytes, packRoom}
 use Rattle.demands.specs.Calls.{PackCall}
 
 -- what was written for n samples: `table` and `samples` are the first t and b bytes of the outputs
@@ -57,3 +58,13 @@ PackingIsDone =
     → let track = packed (cuesOf scale records pool) (tick scale T) in
     length (tableBytes track) ≤ length table → length (samplesBytes track) ≤ length samples
     → answer ≡ Done (length track) (length (tableBytes track)) (length (samplesBytes track))
+
+-- what the room says of an answer where a and c bytes are lent: lengths that fit are the answer, others are 15; a refusal is the answer
+abbrev pub Tells : Packed → ℕ → ℕ → Packed → Type 0
+Tells (Done n t b) a c answer = (t ≤ a → b ≤ c → answer ≡ Done n t b) × (a < t → answer ≡ Refused (fault 15 0)) × (t ≤ a → c < b → answer ≡ Refused (fault 15 1))
+Tells (Refused r) a c answer = answer ≡ Refused r
+
+abbrev pub PackRoomTells : Type 0
+PackRoomTells =
+    (scale T : ℕ) (records pool table samples tableAfter samplesAfter : List ℕ) (answer : Packed)
+    → PackCall scale T records pool table samples tableAfter samplesAfter answer → Tells (packRoom scale T records pool) (length table) (length samples) answer

@@ -2,7 +2,8 @@
 -- text that its place names; whatever was given.
 use Prim.Native.Nat.{ℕ, _≤_}
 use mathlib.Core.Path.{_≡_}
-use mathlib.Core.Logic.{_⊎_, _≢_}
+use mathlib.Core.Logic.{_≢_}
+use mathlib.Core.Option.{Option}
 use mathlib.Core.List.{List}
 use lib.ListN.{length}
 use Rattle.verdict.specs.declared.Verdict.{Verdict}
@@ -14,9 +15,14 @@ use Rattle.wvtt_cues.specs.declared.Held.{Held as Cue}
 use Rattle.wvtt_cues.specs.declared.Held.the-variants.{Cue as HeldCue, Refused as NoCue, End as NoMoreCues}
 use Rattle.wvtt_cues.specs.Cues.{nextCue}
 use Rattle.wvtt_entry.specs.Entry.{judgeEntry}
+use Rattle.wvtt_entry_write.specs.declared.Written.{Written}
+use Rattle.wvtt_entry_write.specs.declared.Written.the-variants.{Done as WrittenDone, Refused as NotWritten}
+use Rattle.wvtt_entry_write.specs.Writing.{writtenOf}
 use Rattle.cues.specs.Judgement.{judgeList}
 use Rattle.track.specs.Track.{judgeTrack}
-use Rattle.conform.specs.Conformance.{conformance}
+use Rattle.conform.specs.declared.Checked.{Checked}
+use Rattle.conform.specs.declared.Checked.the-variants.{Passed, BadList, BadTrack}
+use Rattle.conform.specs.Conformance.{checked}
 use Rattle.pack.specs.declared.Packed.{Packed}
 use Rattle.pack.specs.declared.Packed.the-variants.{Done, Refused as NotPacked}
 use Rattle.pack.specs.Packing.{packedOf}
@@ -29,7 +35,10 @@ use Rattle.tx3g_modifiers.specs.declared.Held.{Held as Modifier}
 use Rattle.tx3g_modifiers.specs.declared.Held.the-variants.{One as HeldModifier, Refused as NoModifier, End as NoMoreModifiers}
 use Rattle.tx3g_modifiers.specs.Modifiers.{nextModifier}
 use Rattle.tx3g_style.specs.Style.{styleOf, faultOf}
-use Rattle.demands.specs.Offsets.{InSample, InEntry, InRecord, InTrack, InText, InTx3g, Never}
+use Rattle.tx3g_box.specs.declared.Spot.{Spot}
+use Rattle.tx3g_box.specs.declared.Spot.the-variants.{Sample as SampleBox, Entry as EntryBox, BadEntry as BoxEntry, BadSample as BoxSample}
+use Rattle.tx3g_box.specs.TextBox.{spotOf}
+use Rattle.demands.specs.Offsets.{InSample, InEntry, InWritten, InRecord, InTrack, InText, InTx3g, Never}
 
 -- the numbers of refusals: 1 to 17
 abbrev pub InTable : ℕ → Type 0
@@ -48,6 +57,22 @@ abbrev pub unpacking : Unpacked → Verdict
 unpacking (Unpacks n p T) = Fine
 unpacking (NotUnpacked r) = Refused r
 
+-- of the check: the list's texts, or the track's, by who is at fault
+abbrev pub CheckListed : List ℕ → List ℕ → List ℕ → List ℕ → Checked → Type 0
+CheckListed records pool table samples Passed = Unit {0}
+CheckListed records pool table samples (BadList r) = Listed (InRecord records pool) (Refused r)
+CheckListed records pool table samples (BadTrack r) = Listed (InTrack table samples) (Refused r)
+
+abbrev pub writing : Written → Verdict
+writing (WrittenDone n) = Fine
+writing (NotWritten r) = Refused r
+
+abbrev pub ofBox : Spot → Verdict
+ofBox (SampleBox b) = Fine
+ofBox EntryBox = Fine
+ofBox (BoxEntry r) = Refused r
+ofBox (BoxSample r) = Refused r
+
 abbrev pub ofCue : Cue → Verdict
 ofCue (HeldCue c n) = Fine
 ofCue (NoCue r) = Refused r
@@ -65,12 +90,14 @@ pub record RefusalsAre : Type 0 where
   pub sample : (s : List ℕ) → Listed (InSample s) (judgeSample s)
   pub cue : (s : List ℕ) (from : ℕ) → Listed Never (ofCue (nextCue s (boxesIn s from (length s))))
   pub entry : (e : List ℕ) → Listed (InEntry e) (judgeEntry e)
+  pub write-entry : (c : List ℕ) (l : Option (List ℕ)) (room : ℕ) → Listed (InWritten c l) (writing (writtenOf c l room))
   pub list : (scale T : ℕ) (records pool : List ℕ) → Listed (InRecord records pool) (judgeList scale T records pool)
   pub track : (table samples : List ℕ) → Listed (InTrack table samples) (judgeTrack table samples)
-  pub check : (scale T : ℕ) (records pool table samples : List ℕ) → Listed (λ p q. InRecord records pool p q ⊎ InTrack table samples p q) (conformance scale T records pool table samples)
+  pub check : (scale T : ℕ) (records pool table samples : List ℕ) → CheckListed records pool table samples (checked scale T records pool table samples)
   pub pack : (scale T : ℕ) (records pool : List ℕ) (tableRoom samplesRoom : ℕ) → Listed (InRecord records pool) (packing (packedOf scale T records pool tableRoom samplesRoom))
   pub unpack : (scale : ℕ) (table samples : List ℕ) (recordsRoom poolRoom : ℕ) → Listed (InTrack table samples) (unpacking (unpackOf scale table samples recordsRoom poolRoom))
   pub tx3g-entry : (e : List ℕ) → Listed Never (judgeTx3gEntry e)
   pub tx3g-sample : (e s : List ℕ) → Listed (InTx3g s) (verdictOf (readSample e s))
   pub modifier : (s : List ℕ) (from : ℕ) → Listed Never (ofModifier (nextModifier s (boxesIn s from (length s))))
   pub style : (e s : List ℕ) (k : ℕ) → Listed (InTx3g s) (faultOf (styleOf e s k))
+  pub text-box : (e s : List ℕ) → Listed (InTx3g s) (ofBox (spotOf e s))

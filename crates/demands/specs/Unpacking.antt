@@ -5,8 +5,8 @@ use mathlib.Core.Option.{some}
 use mathlib.Core.List.{List}
 use lib.ListN.{length, take, drop, getD}
 use Rattle.verdict.specs.declared.Refusal.{Refusal}
-use Rattle.verdict.specs.declared.Verdict.{Verdict}
 use Rattle.verdict.specs.declared.Verdict.the-variants.{Fine}
+use Rattle.verdict.specs.Judgement.{fault}
 use Rattle.times.specs.Times.{back, Limits}
 use Rattle.timeline.specs.Cues.{Cue}
 use Rattle.timeline.specs.Tracks.{total}
@@ -15,9 +15,12 @@ use Rattle.records.specs.Records.{count, sourceId, startMs, endMs, textOffset, 
 use Rattle.cues.specs.Judgement.{judgeList}
 use Rattle.track.specs.Track.{trackOf, judgeTrack, Readable}
 use Rattle.pack.specs.declared.Packed.the-variants.{Done as PackDone}
+use Rattle.conform.specs.declared.Checked.{Checked}
+use Rattle.conform.specs.declared.Checked.the-variants.{Passed}
 use Rattle.unpack_write.specs.Records.{recordsOf, poolOf}
 use Rattle.unpack.specs.declared.Unpacked.{Unpacked}
 use Rattle.unpack.specs.declared.Unpacked.the-variants.{Done, Refused}
+use Rattle.unpack.specs.Unpacking.{unpackRoom}
 use Rattle.demands.specs.Calls.{PackCall, CheckCall, UnpackCall}
 
 -- two lists have the same cues in the same order: source IDs, milliseconds, identifiers, settings, payloads
@@ -83,6 +86,16 @@ UnpackingIsDone =
     → length (recordsOf scale cues) ≤ length records → length (poolOf cues) ≤ length pool
     → answer ≡ Done (length (recordsOf scale cues)) (length (poolOf cues)) T
 
+-- what the room says of an answer where a and b bytes are lent: lengths that fit are the answer, others are 15; a refusal is the answer
+abbrev pub Tells : Unpacked → ℕ → ℕ → Unpacked → Type 0
+Tells (Done n p t) a b answer = (n ≤ a → p ≤ b → answer ≡ Done n p t) × (a < n → answer ≡ Refused (fault 15 0)) × (n ≤ a → b < p → answer ≡ Refused (fault 15 1))
+Tells (Refused r) a b answer = answer ≡ Refused r
+
+abbrev pub UnpackRoomTells : Type 0
+UnpackRoomTells =
+    (scale : ℕ) (table samples records pool recordsAfter poolAfter : List ℕ) (answer : Unpacked) → UnpackCall scale table samples records pool recordsAfter poolAfter answer
+    → Tells (unpackRoom scale table samples) (length records) (length pool) answer
+
 -- a call that is refused has written nothing
 abbrev pub RefusedUnpackingKeeps : Type 0
 RefusedUnpackingKeeps =
@@ -98,6 +111,6 @@ UnpackedIsFine =
 -- at a scale of 1,000 or less the check accepts every unpacked list with the track it came from
 abbrev pub UnpackedPasses : Type 0
 UnpackedPasses =
-    (scale : ℕ) (table samples records pool recordsAfter poolAfter : List ℕ) (n p T : ℕ) (answer : Verdict)
+    (scale : ℕ) (table samples records pool recordsAfter poolAfter : List ℕ) (n p T : ℕ) (answer : Checked)
     → UnpackCall scale table samples records pool recordsAfter poolAfter (Done n p T) → scale ≤ 1000
-    → CheckCall scale T (take n recordsAfter) (take p poolAfter) table samples answer → answer ≡ Fine
+    → CheckCall scale T (take n recordsAfter) (take p poolAfter) table samples answer → answer ≡ Passed

@@ -1,9 +1,9 @@
 // The three operations, each with the contract that the demands start from (specs/Calls.antt). The demands are theorems about every such call (specs/), with their
 // proofs (proofs/).
+use conform::Checked;
 use conform::check_track;
 use pack::Packed;
 use unpack::Unpacked;
-use verdict::Verdict;
 ghost use Rattle.demands.specs.Calls.{PackCall, CheckCall, UnpackCall};
 
 // Packing.
@@ -28,7 +28,7 @@ pub fn check_list(
     pool: &[u8],
     table: &[u8],
     samples: &[u8],
-) -> Verdict
+) -> Checked
     ensures { λ r. ⌜ CheckCall scale t (now (records .entry)) (now (pool .entry)) (now (table .entry)) (now (samples .entry)) r ⌝ }
 {
     check_track(scale, t, records, pool, table, samples)

@@ -45,7 +45,7 @@ top-from v [] = top-top v
 top-from v (d ∷ s) =
     sym (top-from (top v * 10 + (d - 48)) s) ∙ ap (λ (k : ℕ). top (valueFrom k s)) (top-grown v (d - 48)) ∙ top-from (v * 10 + (d - 48)) s
 
-fed-wrong : (s : List ℕ) → lineAt (fed Wrong s) ≡ Bad
+pub fed-wrong : (s : List ℕ) → lineAt (fed Wrong s) ≡ Bad
 unfolding fed
 fed-wrong [] = refl
 fed-wrong (b ∷ s) = fed-wrong s

@@ -17,6 +17,7 @@ use Rattle.base.specs.Choice.{within}
 use Rattle.base.proofs.Choice.{both-left}
 use Rattle.input.specs.Line.{isDigit}
 use Rattle.input.specs.Reading.{stepped, fed, lineAt}
+use Rattle.input.specs.Reads.{isWrong}
 use Rattle.input.specs.declared.Reading.{Reading}
 use Rattle.input.specs.declared.Reading.the-variants.{Start, Scale, Space, Time, Whole, Wrong}
 use Rattle.input.specs.declared.Line.the-variants.{Bad}
@@ -49,3 +50,12 @@ not-whole (Time v w) h = refl
 not-whole (Whole v w) h =
     ⊎-elim (λ z. absurd (omega arith)) (λ h. ⊎-elim (λ z. absurd (omega arith)) (λ h. ⊎-elim (λ z. absurd (omega arith)) (λ h. ⊎-elim (λ z. absurd (omega arith)) (λ z. absurd (omega arith)) h) h) h) h
 not-whole Wrong h = refl
+
+pub not-wrong : (r : Reading) → OneOf (0 ∷ 1 ∷ 2 ∷ 3 ∷ 4 ∷ []) (tagOf (declared Reading-enum) r) → false ≡ isWrong r
+not-wrong Start h = refl
+not-wrong (Scale v) h = refl
+not-wrong (Space v) h = refl
+not-wrong (Time v w) h = refl
+not-wrong (Whole v w) h = refl
+not-wrong Wrong h =
+    ⊎-elim (λ z. absurd (omega arith)) (λ h. ⊎-elim (λ z. absurd (omega arith)) (λ h. ⊎-elim (λ z. absurd (omega arith)) (λ h. ⊎-elim (λ z. absurd (omega arith)) (λ z. absurd (omega arith)) h) h) h) h

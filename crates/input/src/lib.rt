@@ -2,7 +2,9 @@
 ghost use mathlib.Core.Path.{_≡_};
 ghost use mathlib.Core.Bool.{true};
 ghost use Rattle.input.specs.Line.{isDigit};
+ghost use Prim.Native.Nat.{min};
 ghost use Rattle.input.specs.Reading.{grown, stepped, fed, lineAt};
+ghost use Rattle.input.specs.Reads.{isWrong, chunkOf};
 
 // How far the line is read, with the numbers so far. A number above 4294967295 counts as that.
 pub enum Reading {
@@ -18,6 +20,12 @@ pub enum Reading {
 pub enum Line {
     Numbers { scale: u32, t: u32 },
     Bad,
+}
+
+// What a read leaves: how far the line is read, and whether there is no more to read.
+pub struct Chunk {
+    pub state: Reading,
+    pub last: bool,
 }
 
 fn is_digit(b: u8) -> bool
@@ -124,4 +132,44 @@ pub fn finish(state: Reading) -> Line
         return Line::Bad;
     };
     Line::Numbers { scale, t }
+}
+
+fn is_wrong(state: Reading) -> bool
+    ensures { λ r. ⌜ r ≡ isWrong state ⌝ }
+{
+    let Reading::Wrong = state else {
+        return false;
+    };
+    true
+}
+
+fn least(a: usize, b: usize) -> usize
+    ensures { λ r. ⌜ r ≡ min a b ⌝ }
+{
+    if a < b {
+        return a;
+    }
+    b
+}
+
+// A read more, which answered `got` and left its bytes at the front of the buffer. One that failed makes the line a bad one.
+pub fn take_read(state: Reading, got: isize, buffer: &[u8]) -> Chunk
+    ensures { λ r. ⌜ r ≡ chunkOf state got (now (buffer .entry)) ⌝ }
+{
+    if got < 0 {
+        return Chunk {
+            state: Reading::Wrong,
+            last: true,
+        };
+    }
+    let n = least(got as usize, buffer.len());
+    let next = feed(state, &buffer[..n]);
+    if n == 0 {
+        return Chunk {
+            state: next,
+            last: true,
+        };
+    }
+    let last = is_wrong(next);
+    Chunk { state: next, last }
 }

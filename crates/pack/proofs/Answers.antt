@@ -12,22 +12,22 @@ use Rattle.verdict.specs.declared.Verdict.the-variants.{Fine, Refused as Faulty
 use Rattle.verdict.specs.Judgement.{fault}
 use Rattle.cues.specs.Judgement.{judgeList}
 use Rattle.pack.specs.declared.Packed.the-variants.{Done, Refused}
-use Rattle.pack.specs.Packing.{packedTrack, tableBytes, samplesBytes, roomed, packedOf}
+use Rattle.pack.specs.Packing.{packedTrack, tableBytes, samplesBytes, sizesOf, packedOf}
 use Rattle.pack.specs.Statements.{Packs, TableTooLong, SamplesTooLong}
 use Rattle.pack.proofs.Laws.{fine-packed, faulty-packed}
 
 pub packs : Packs
-unfolding roomed
+unfolding sizesOf
 packs scale T recs pool a b f h k =
     fine-packed scale T recs pool a b f
     ∙ rw (le-ltb a (length (tableBytes (packedTrack scale T recs pool))) h, le-ltb b (length (samplesBytes (packedTrack scale T recs pool))) k)
 
 pub table-too-long : TableTooLong
-unfolding roomed
+unfolding sizesOf
 table-too-long scale T recs pool a b f h = fine-packed scale T recs pool a b f ∙ rw (lt-ltb a (length (tableBytes (packedTrack scale T recs pool))) h)
 
 pub samples-too-long : SamplesTooLong
-unfolding roomed
+unfolding sizesOf
 samples-too-long scale T recs pool a b f h k =
     fine-packed scale T recs pool a b f
     ∙ rw (le-ltb a (length (tableBytes (packedTrack scale T recs pool))) h, lt-ltb b (length (samplesBytes (packedTrack scale T recs pool))) k)

@@ -33,9 +33,11 @@ use Rattle.cuts.specs.Cuts.{startTick, endTick, runsAt, recordSize, cuesSize, o
 use Rattle.cuts.specs.Window.{Ended, Later}
 use Rattle.cuts.proofs.Laws.{runs-started, runs-ended, runs-later, size-more, size-most, not-empty}
 use Rattle.verdict.specs.declared.Refusal.{Refusal}
+use Rattle.verdict.specs.declared.Verdict.{Verdict}
 use Rattle.verdict.specs.declared.Verdict.the-variants.{Fine, Refused as Faulty}
-use Rattle.pack.specs.declared.Packed.the-variants.{Refused}
-use Rattle.pack.specs.Packing.{packedTrack, rowBytes, tableBytes, samplesBytes, roomed, packedOf}
+use Rattle.pack.specs.declared.Packed.{Packed}
+use Rattle.pack.specs.declared.Packed.the-variants.{Done, Refused}
+use Rattle.pack.specs.Packing.{packedTrack, rowBytes, tableBytes, samplesBytes, sizesOf, packRoom, roomed, packedOf, after}
 use Rattle.pack.specs.Writing.{shown, Inside}
 
 pub cues-append : (a b : List Body) → cuesBytes (a ++ b) ≡ cuesBytes a ++ cuesBytes b
@@ -178,11 +180,48 @@ unfolding tableBytes rowBytes
 length-table [] = refl
 length-table (s ∷ l) = rw (length-append, length-append, length-bytes, length-bytes) (omega (arith, length-table l))
 
+-- the room for a list without fault, and for another
+pub fine-room : (scale T : ℕ) (recs pool : List ℕ) → judgeList scale T recs pool ≡ Fine → packRoom scale T recs pool ≡ sizesOf (packedTrack scale T recs pool)
+unfolding packRoom
+fine-room scale T recs pool e = rw e
+
+pub faulty-room : (scale T : ℕ) (recs pool : List ℕ) (r : Refusal) → judgeList scale T recs pool ≡ Faulty r → packRoom scale T recs pool ≡ Refused r
+unfolding packRoom
+faulty-room scale T recs pool r e = rw e
+
 -- the answer of a list without fault, and of another
-pub fine-packed : (scale T : ℕ) (recs pool : List ℕ) (a b : ℕ) → judgeList scale T recs pool ≡ Fine → packedOf scale T recs pool a b ≡ roomed (packedTrack scale T recs pool) a b
+pub fine-packed : (scale T : ℕ) (recs pool : List ℕ) (a b : ℕ) → judgeList scale T recs pool ≡ Fine → packedOf scale T recs pool a b ≡ roomed a b (sizesOf (packedTrack scale T recs pool))
 unfolding packedOf
-fine-packed scale T recs pool a b e = rw e
+fine-packed scale T recs pool a b e = ap (roomed a b) (fine-room scale T recs pool e)
 
 pub faulty-packed : (scale T : ℕ) (recs pool : List ℕ) (a b : ℕ) (r : Refusal) → judgeList scale T recs pool ≡ Faulty r → packedOf scale T recs pool a b ≡ Refused r
 unfolding packedOf
-faulty-packed scale T recs pool a b r e = rw e
+faulty-packed scale T recs pool a b r e = ap (roomed a b) (faulty-room scale T recs pool r e)
+
+-- by the room: a refusal is the answer, and leaves an output as it is; lengths are held against what is lent
+pub room-refused : (scale T : ℕ) (recs pool : List ℕ) (a b : ℕ) (p : Packed) (r : Refusal) → p ≡ packRoom scale T recs pool → p ≡ Refused r
+    → (p ≡ packedOf scale T recs pool a b) × ((x d : List ℕ) → d ≡ after p x d)
+unfolding packedOf
+room-refused scale T recs pool a b p r e q = (q ∙ ap (roomed a b) (sym q ∙ e), λ x d. ap (λ (z : Packed). after z x d) (sym q))
+
+pub room-told : (scale T : ℕ) (recs pool : List ℕ) (a b : ℕ) (p : Packed) (n t m : ℕ) → p ≡ packRoom scale T recs pool → p ≡ Done n t m
+    → packedOf scale T recs pool a b ≡ roomed a b (Done n t m)
+unfolding packedOf
+room-told scale T recs pool a b p n t m e q = ap (roomed a b) (sym e ∙ q)
+
+-- the lengths are those of a packed track, of a list without fault
+pub room-means : (scale T : ℕ) (recs pool : List ℕ) (p : Packed) (n t m : ℕ) → p ≡ packRoom scale T recs pool → p ≡ Done n t m
+    → (judgeList scale T recs pool ≡ Fine) × (t ≡ length (tableBytes (packedTrack scale T recs pool))) × (m ≡ length (samplesBytes (packedTrack scale T recs pool)))
+unfolding sizesOf
+room-means scale T recs pool p n t m e q = go (judgeList scale T recs pool) refl
+  where
+    apart : (r : Refusal) → packRoom scale T recs pool ≡ Refused r → _≡_ {A = ℕ} 0 1
+    apart r k = cc
+
+    same : (x y z : ℕ) → packRoom scale T recs pool ≡ Done x y z → (t ≡ y) × (m ≡ z)
+    same x y z k = ((cc), (cc))
+
+    go : (v : Verdict) → judgeList scale T recs pool ≡ v
+        → (judgeList scale T recs pool ≡ Fine) × (t ≡ length (tableBytes (packedTrack scale T recs pool))) × (m ≡ length (samplesBytes (packedTrack scale T recs pool)))
+    go (Faulty r) f = absurd (omega (arith, apart r (faulty-room scale T recs pool r f)))
+    go Fine f = let w = same _ _ _ (fine-room scale T recs pool f) in (f, w .0, w .1)

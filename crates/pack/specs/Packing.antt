@@ -37,22 +37,29 @@ unfoldable pub samplesBytes : List Sample → List ℕ
 samplesBytes [] = []
 samplesBytes (s ∷ ss) = sampleBytes (s .held) ++ samplesBytes ss
 
--- 15: the table does not fit (place 0), the samples do not (place 1); else how many samples, and the bytes of both
-unfoldable pub roomed : List Sample → ℕ → ℕ → Packed
+-- how many samples, and the bytes of both
+unfoldable pub sizesOf : List Sample → Packed
 unfolding tableBytes samplesBytes
-roomed track tableRoom samplesRoom =
-    pick (ltb tableRoom (length (tableBytes track))) (Refused (fault 15 0))
-    (pick (ltb samplesRoom (length (samplesBytes track))) (Refused (fault 15 1))
-    (Done (length track) (length (tableBytes track)) (length (samplesBytes track))))
+sizesOf track = Done (length track) (length (tableBytes track)) (length (samplesBytes track))
 
 abbrev pub unlessFaulty : Verdict → Packed → Packed
 unlessFaulty Fine p = p
 unlessFaulty (Faulty r) p = Refused r
 
+-- the room that packing needs, which is its answer where there is enough: the list's fault; else done
+unfoldable pub packRoom : ℕ → ℕ → List ℕ → List ℕ → Packed
+unfolding packedTrack sizesOf
+packRoom scale T recs pool = unlessFaulty (judgeList scale T recs pool) (sizesOf (packedTrack scale T recs pool))
+
+-- 15: the table does not fit (place 0), the samples do not (place 1)
+abbrev pub roomed : ℕ → ℕ → Packed → Packed
+roomed tableRoom samplesRoom (Done n t b) = pick (ltb tableRoom t) (Refused (fault 15 0)) (pick (ltb samplesRoom b) (Refused (fault 15 1)) (Done n t b))
+roomed tableRoom samplesRoom (Refused r) = Refused r
+
 -- the answer: the list's fault; else 15; else done
 unfoldable pub packedOf : ℕ → ℕ → List ℕ → List ℕ → ℕ → ℕ → Packed
-unfolding packedTrack roomed
-packedOf scale T recs pool tableRoom samplesRoom = unlessFaulty (judgeList scale T recs pool) (roomed (packedTrack scale T recs pool) tableRoom samplesRoom)
+unfolding packRoom
+packedOf scale T recs pool tableRoom samplesRoom = roomed tableRoom samplesRoom (packRoom scale T recs pool)
 
 -- what an output d holds afterwards: the result p over its front, or else what it held
 abbrev pub after : Packed → List ℕ → List ℕ → List ℕ

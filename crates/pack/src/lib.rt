@@ -30,7 +30,7 @@ ghost use Rattle.records.specs.Records.{textsEnd};
 ghost use Rattle.cues.specs.List.{bodyOf, Sound};
 ghost use Rattle.cuts.specs.Cuts.{endTick, recordSize, cuesSize, orEmpty, Lasting};
 ghost use Rattle.cuts.specs.Window.{Window, From};
-ghost use Rattle.pack.specs.Packing.{packedTrack, tableBytes, samplesBytes, roomed, packedOf, after};
+ghost use Rattle.pack.specs.Packing.{packedTrack, tableBytes, samplesBytes, sizesOf, packRoom, packedOf, after};
 ghost use Rattle.pack.specs.Writing.{shown, Inside};
 
 // How many samples were written, and the bytes of the table and of the samples; or why nothing was.
@@ -165,33 +165,28 @@ fn write_track(
     }
 }
 
-// Packs a list without fault.
-fn pack_sound(
-    scale: u32,
-    t: u32,
-    records: &[u8],
-    pool: &[u8],
-    table: &mut [u8],
-    samples: &mut [u8],
-) -> Packed
+// The room for a list without fault.
+fn measure_sound(scale: u32, t: u32, records: &[u8], pool: &[u8]) -> Packed
     requires { ⌜ Sound scale t (now records) (now pool) ⌝ }
-    ensures { λ r. ⌜ r ≡ roomed (packedTrack scale t (now (records .entry)) (now (pool .entry))) (length (now (table .entry))) (length (now (samples .entry))) ⌝ }
-    ensures { λ r. ⌜ now (table .exit) ≡ after r (tableBytes (packedTrack scale t (now (records .entry)) (now (pool .entry)))) (now (table .entry)) ⌝ }
-    ensures { λ r. ⌜ now (samples .exit) ≡ after r (samplesBytes (packedTrack scale t (now (records .entry)) (now (pool .entry)))) (now (samples .entry)) ⌝ }
+    ensures { λ r. ⌜ r ≡ sizesOf (packedTrack scale t (now (records .entry)) (now (pool .entry))) ⌝ }
 {
     let size = measure(scale, tick_of(scale, t), records, records.len() / 24);
-    if table.len() < size.count * 8 {
-        return Packed::Refused(fault_at(15, 0));
-    }
-    if samples.len() < size.bytes {
-        return Packed::Refused(fault_at(15, 1));
-    }
-    write_track(scale, t, records, pool, &mut *table, &mut *samples);
     Packed::Done {
         samples: size.count,
         table: size.count * 8,
         bytes: size.bytes,
     }
+}
+
+// The room that packing needs: what it answers where there is enough.
+pub fn pack_room(scale: u32, t: u32, records: &[u8], pool: &[u8]) -> Packed
+    ensures { λ r. ⌜ r ≡ packRoom scale t (now (records .entry)) (now (pool .entry)) ⌝ }
+{
+    let v = judge_list(scale, t, records, pool);
+    let Verdict::Refused(why) = v else {
+        return measure_sound(scale, t, records, pool);
+    };
+    Packed::Refused(why)
 }
 
 // Packs a list of records and their pool into a table and samples, or says why not.
@@ -207,9 +202,21 @@ pub fn pack(
     ensures { λ r. ⌜ now (table .exit) ≡ after r (tableBytes (packedTrack scale t (now (records .entry)) (now (pool .entry)))) (now (table .entry)) ⌝ }
     ensures { λ r. ⌜ now (samples .exit) ≡ after r (samplesBytes (packedTrack scale t (now (records .entry)) (now (pool .entry)))) (now (samples .entry)) ⌝ }
 {
-    let v = judge_list(scale, t, records, pool);
-    let Verdict::Refused(why) = v else {
-        return pack_sound(scale, t, records, pool, &mut *table, &mut *samples);
+    let room = pack_room(scale, t, records, pool);
+    let Packed::Done {
+        samples: _,
+        table: rows,
+        bytes,
+    } = room
+    else {
+        return room;
     };
-    Packed::Refused(why)
+    if table.len() < rows {
+        return Packed::Refused(fault_at(15, 0));
+    }
+    if samples.len() < bytes {
+        return Packed::Refused(fault_at(15, 1));
+    }
+    write_track(scale, t, records, pool, &mut *table, &mut *samples);
+    room
 }

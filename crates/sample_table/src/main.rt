@@ -1,91 +1,67 @@
 // Prints the sample table of the cues of `cues.rec` and `cues.pool`, or why there is none.
-// Scale and T stand on standard input.
+// Scale and T stand on standard input. What is made of C's answers is decided in crates `input` and `report`.
+use input::Chunk;
 use input::Line;
 use input::Reading;
-use input::feed;
 use input::finish;
+use input::take_read;
 use libc::STDIN_FILENO;
 use libc::STDOUT_FILENO;
-use report::put_answer;
+use report::Taken;
+use report::put_output;
 ghost use Prim.Native.Nat.{_≤_};
 ghost use lib.ListN.{length};
+ghost use Rattle.libc.specs.Io.{Moved};
+ghost use Rattle.sample_table.specs.Reads.{ByOneRead, ByReads};
 
-// How far standard input is read, and whether that is all.
-struct Chunk {
-    state: Reading,
-    last: bool,
-}
-
-// What was read of a file, and whether the file ended there.
-struct Taken {
-    n: usize,
-    found: bool,
-}
-
-// One read of standard input. A read that fails makes the line a bad one.
-fn read_chunk(state: Reading) -> Chunk {
+// One read of standard input.
+fn read_chunk(state: Reading) -> Chunk
+    ensures { λ r. ⌜ ByOneRead state r ⌝ }
+{
     let mut buffer = io::large_buffer();
     let got = libc::read(STDIN_FILENO, &mut buffer);
-    if got < 0 {
-        return Chunk {
-            state: Reading::Wrong,
-            last: true,
-        };
-    }
-    let n = io::count(got, &buffer);
-    let next = feed(state, &buffer[..n]);
-    let Reading::Wrong = next else {
-        return Chunk {
-            state: next,
-            last: n == 0,
-        };
-    };
-    Chunk {
-        state: Reading::Wrong,
-        last: true,
-    }
+    take_read(state, got, &buffer)
 }
 
-// The input line. One that takes more than 4294967295 reads is a bad one.
-fn read_line() -> Line {
-    let mut state = Reading::Start;
+// The input line, of which `state` is read. One that takes more than 4294967295 reads is a bad one.
+fn read_line(state: Reading) -> Line
+    ensures { λ r. ⌜ ByReads state r ⌝ }
+{
+    let mut reached = state;
     let mut turns: u32 = 4294967295;
     while turns > 0 {
-        let chunk = read_chunk(state);
-        state = chunk.state;
+        let chunk = read_chunk(reached);
+        reached = chunk.state;
         if chunk.last {
-            return finish(state);
+            return finish(reached);
         }
         turns -= 1;
     }
     Line::Bad
 }
 
-// The start of a file, as much as the buffer holds.
+// The start of a file, as much as the buffer holds, and one read more.
 fn read_file(path: &[u8], buffer: &mut [u8]) -> Taken
-    ensures { λ r. ⌜ r .n ≤ length (now (buffer .exit)) ⌝ }
+    ensures { λ r. ⌜ (r .n ≤ length (now (buffer .exit))) × Moved 1 (r .more) ⌝ }
 {
     let fd = os::open_read(path);
     if fd < 0 {
-        return Taken { n: 0, found: false };
+        return Taken { fd, n: 0, more: -1 };
     }
     let n = io::read_full(fd, &mut *buffer);
-    let mut more = [0u8; 1];
-    let got = libc::read(fd, &mut more);
+    let mut behind = [0u8; 1];
+    let more = libc::read(fd, &mut behind);
     libc::close(fd);
-    Taken { n, found: got == 0 }
+    Taken { fd, n, more }
 }
 
 fn main() {
-    let line = read_line();
+    let line = read_line(Reading::Start);
     let mut records = [0u8; 32769];
     let mut pool = [0u8; 32769];
     let mut out = [0u8; 45078];
     let first = read_file(b"cues.rec", &mut records);
     let second = read_file(b"cues.pool", &mut pool);
-    let n = first.n;
-    let m = second.n;
-    let found = first.found && second.found;
-    let end = put_answer(line, found, &records[..n], &pool[..m], &mut out);
+    let end = put_output(line, first, second, &records, &pool, &mut out);
     io::write_all(STDOUT_FILENO, &out[..end]);
 }

@@ -1,14 +1,20 @@
--- The order of signed numbers is that of their ranks; the bytes that are -1, 0 or 1.
-use Prim.Native.Nat.{ℕ, _+_, _-_, _≤_, _<_}
+-- The order of signed numbers is that of their ranks; the bytes that are -1, 0 or 1; the numbers themselves.
+use Prim.Native.Nat.{ℕ, suc, _+_, _-_, _≤_, _<_}
 use mathlib.Core.Path.{_≡_, refl, sym, _∙_}
+use mathlib.Core.List.{List}
 use mathlib.Core.Bool.{Bool, true, false}
 use native.Mathlib.Omega.{arith}
 use lib.Dec.{ltb, leb}
-use lib.IntN.{pos, negsuc}
+use lib.IntN.{ℤ, pos, negsuc, _-ℤ_}
+use mir.Syntax.{w32}
+use mir.Val.{toZ, ofZ, SFits}
+use mir.Facts.{toZ-ofZ}
 use lib.Signed.{leZ}
 use borrow.Author.Tests.{ltb-true, ltb-false, leb-true, leb-false, le-leb, lt-leb, lt-ltb, le-ltb}
 use Rattle.base.specs.Choice.{pick, both}
-use Rattle.signed.specs.Signed.{signed16, signed8, justified}
+use Rattle.fields.specs.BigEndian.{be}
+use Rattle.signed.specs.declared.Edges.{Edges}
+use Rattle.signed.specs.Signed.{signed16, signed8, justified, edgesAt}
 use Rattle.signed.specs.Rank.{shift16, OrderIs}
 
 -- two tests with equal answers
@@ -52,3 +58,52 @@ just-other v h n = go (ltb v 128) refl
     go false p =
         let l = ltb-false v 128 p in
         rw (lt-leb (255 - v) 0 (omega arith), le-ltb v 2 (omega arith))
+
+-- the numbers that the code makes
+pub small16 : (v : ℕ) → v < 32768 → toZ w32 v ≡ signed16 v
+unfolding signed16
+small16 v h = rw (lt-ltb v 32768 h, lt-ltb v 2147483648 (omega arith))
+
+pub large16 : (v : ℕ) → v < 65536 → 32768 ≤ v → toZ w32 v -ℤ pos 65536 ≡ signed16 v
+unfolding signed16
+large16 v h k =
+    let e : 65536 - suc v ≡ 65535 - v = omega arith in
+    rw (le-ltb v 32768 k, lt-ltb v 2147483648 (omega arith), lt-ltb v 65536 h, e)
+
+pub fits16 : (v : ℕ) → v < 65536 → SFits w32 (signed16 v)
+unfolding signed16
+fits16 v h = go (ltb v 32768)
+  where
+    go : (t : Bool) → SFits w32 (pick t (pos v) (negsuc (65535 - v)))
+    go true = record { sfits = omega arith }
+    go false = record { sfits = omega arith }
+
+pub small8 : (v : ℕ) → v < 128 → toZ w32 v ≡ signed8 v
+unfolding signed8
+small8 v h = rw (lt-ltb v 128 h, lt-ltb v 2147483648 (omega arith))
+
+pub large8 : (v : ℕ) → v < 256 → 128 ≤ v → toZ w32 v -ℤ pos 256 ≡ signed8 v
+unfolding signed8
+large8 v h k =
+    let e : 256 - suc v ≡ 255 - v = omega arith in
+    rw (le-ltb v 128 k, lt-ltb v 2147483648 (omega arith), lt-ltb v 256 h, e)
+
+pub fits8 : (v : ℕ) → v < 256 → SFits w32 (signed8 v)
+unfolding signed8
+fits8 v h = go (ltb v 128)
+  where
+    go : (t : Bool) → SFits w32 (pick t (pos v) (negsuc (255 - v)))
+    go true = record { sfits = omega arith }
+    go false = record { sfits = omega arith }
+
+-- a number as it is kept in a field
+pub kept16 : (z : ℤ) (v : ℕ) → z ≡ signed16 v → v < 65536 → toZ w32 (ofZ w32 z) ≡ signed16 v
+kept16 z v e h = rw e (toZ-ofZ (fits16 v h))
+
+pub kept8 : (z : ℤ) (v : ℕ) → z ≡ signed8 v → v < 256 → toZ w32 (ofZ w32 z) ≡ signed8 v
+kept8 z v e h = rw e (toZ-ofZ (fits8 v h))
+
+pub edges-are : (s : List ℕ) (at : ℕ) (a b c d : ℤ) → a ≡ signed16 (be 2 s at) → b ≡ signed16 (be 2 s (at + 2)) → c ≡ signed16 (be 2 s (at + 4)) → d ≡ signed16 (be 2 s (at + 6))
+    → _≡_ {A = Edges} (record { top = a; left = b; bottom = c; right = d }) (edgesAt s at)
+unfolding edgesAt
+edges-are s at a b c d p q r t = rw (p, q, r, t)

@@ -7,6 +7,7 @@ use lib.IntN.{ℤ, pos, negsuc}
 use lib.Signed.{leZ}
 use Rattle.base.specs.Choice.{pick, both}
 use Rattle.fields.specs.BigEndian.{be}
+use Rattle.signed.specs.declared.Edges.{Edges}
 
 -- a number of 16 bits: below 32768 itself, else itself less 65536 (`negsuc n` is -(n + 1))
 unfoldable pub signed16 : ℕ → ℤ
@@ -23,3 +24,14 @@ ordered s at = both (leZ (signed16 (be 2 s at)) (signed16 (be 2 s (at + 4)))) (l
 -- -1, 0 or 1
 unfoldable pub justified : ℕ → Bool
 justified v = both (leZ (negsuc 0) (signed8 v)) (leZ (signed8 v) (pos 1))
+
+-- the four numbers of a text box at `at`
+unfoldable pub edgesAt : List ℕ → ℕ → Edges
+unfolding signed16
+edgesAt s at =
+    record {
+      top = signed16 (be 2 s at);
+      left = signed16 (be 2 s (at + 2));
+      bottom = signed16 (be 2 s (at + 4));
+      right = signed16 (be 2 s (at + 6));
+    }

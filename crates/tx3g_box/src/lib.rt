@@ -5,15 +5,17 @@ use tx3g_contents::TBOX;
 use tx3g_sample::Reading;
 use tx3g_sample::read_sample;
 use tx3g_sample::text_end;
+use verdict::Refusal;
 ghost use mathlib.Core.Path.{_≡_};
 ghost use Rattle.tx3g_sample.specs.Sample.{readSample};
 ghost use Rattle.tx3g_box.specs.TextBox.{spotIn, boxesOf, spotOf, bytesAt, standsAt};
 
-// Where the eight bytes stand: at a place of the sample, or in the entry at its fixed place; nowhere when refused.
+// Where the eight bytes stand: at a place of the sample, or in the entry at its fixed place; or the first fault and whose it is.
 pub enum Spot {
     Sample(usize),
     Entry,
-    Nowhere,
+    BadEntry(Refusal),
+    BadSample(Refusal),
 }
 
 fn find_within(e: &[u8], s: &[u8], characters: usize) -> Spot
@@ -24,7 +26,7 @@ fn find_within(e: &[u8], s: &[u8], characters: usize) -> Spot
     let t = find_body(s, from, TBOX);
     match t {
         Body::At(body) => Spot::Sample(body),
-        Body::Refused(_) => Spot::Nowhere,
+        Body::Refused(why) => Spot::BadSample(why),
         Body::Nowhere => Spot::Entry,
     }
 }
@@ -35,20 +37,21 @@ pub fn find_box(e: &[u8], s: &[u8]) -> Spot
 {
     let r = read_sample(e, s);
     match r {
-        Reading::BadEntry(_) => Spot::Nowhere,
-        Reading::BadSample(_) => Spot::Nowhere,
+        Reading::BadEntry(why) => Spot::BadEntry(why),
+        Reading::BadSample(why) => Spot::BadSample(why),
         Reading::Good(characters) => find_within(e, s, characters),
     }
 }
 
-// The text box in force: eight bytes of the sample or of the entry; no bytes when refused. `tx3g_sample::read_sample` gives number and place.
-pub fn text_box<'a>(e: &'a [u8], s: &'a [u8]) -> &'a [u8]
-    ensures { λ r. ⌜ (now r ≡ bytesAt (now (e .entry)) (now (s .entry)) (spotOf (now (e .entry)) (now (s .entry)))) × (r .ptr ≡ standsAt (e .entry .ptr) (s .entry .ptr) (spotOf (now (e .entry)) (now (s .entry)))) ⌝ }
+// The text box in force, by where it stands: eight bytes of the sample or of the entry; no bytes when refused.
+pub fn text_box<'a>(e: &'a [u8], s: &'a [u8], p: Spot) -> &'a [u8]
+    requires { ⌜ p ≡ spotOf (now e) (now s) ⌝ }
+    ensures { λ r. ⌜ (now r ≡ bytesAt (now (e .entry)) (now (s .entry)) p) × (r .ptr ≡ standsAt (e .entry .ptr) (s .entry .ptr) p) ⌝ }
 {
-    let p = find_box(e, s);
     match p {
         Spot::Sample(at) => &s[at..at + 8],
         Spot::Entry => &e[26..34],
-        Spot::Nowhere => &s[..0],
+        Spot::BadEntry(_) => &s[..0],
+        Spot::BadSample(_) => &s[..0],
     }
 }

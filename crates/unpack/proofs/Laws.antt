@@ -1,22 +1,22 @@
 -- Laws for unpacking: the rows are ready, the last judgements, and the answer stage by stage.
 use Prim.Native.Nat.{ℕ, zero, suc, _*_, _≤_, _<_}
-use mathlib.Core.Path.{_≡_, refl, sym, ap, _∙_, subst}
+use mathlib.Core.Path.{_≡_, refl, sym, ap, _∙_, subst, subst⁻¹}
 use mathlib.Core.Bool.{Bool, true, false, not}
 use mathlib.Core.List.{List, [], _∷_, List·Memᴰ}
 use native.Mathlib.Omega.{arith}
 use native.Mathlib.Nat.{le-refl}
 use lib.Dec.{leb, ltb}
 use lib.ListN.{length, getD}
-use borrow.Author.Tests.{ltb-false, not-false}
+use borrow.Author.Tests.{ltb-false, not-false, lt-ltb, le-ltb}
 use Rattle.base.specs.Choice.{one-of}
-use Rattle.base.proofs.Choice.{by-test}
+use Rattle.base.proofs.Choice.{by-test, either}
 use Rattle.verdict.specs.declared.Refusal.{Refusal}
 use Rattle.verdict.specs.declared.Verdict.{Verdict}
 use Rattle.verdict.specs.declared.Verdict.the-variants.{Fine, Refused}
 use Rattle.verdict.specs.Judgement.{fault, refuse, _gives_at_, each}
 use Rattle.verdict.proofs.Judgement.{both-fine, not-given, each-fine}
 use Rattle.times.specs.Times.{back, scaleAllowed, timelineAllowed, Limits}
-use Rattle.times.proofs.Laws.{timeline-limits}
+use Rattle.times.proofs.Laws.{scale-limits, timeline-limits}
 use Rattle.timeline.specs.Cues.{Body, Cue}
 use Rattle.timeline.specs.Tracks.{Sample, total}
 use Rattle.timeline.specs.Unpacking.{noCue, stopped, done, unpack}
@@ -34,9 +34,11 @@ use Rattle.rows.proofs.Laws.{length-known, known-at}
 use Rattle.unpack_write.specs.Records.{recordsTo, poolTo, recordsOf, poolOf}
 use Rattle.unpack_write.specs.Rows.{Ready, InTime, sizeTo}
 use Rattle.unpack_write.proofs.Laws.{LengthsOf, lengths-of, length-records, length-pool}
-use Rattle.unpack.specs.declared.Unpacked.the-variants.{Refused as Stopped}
-use Rattle.unpack.specs.Unpacking.{trackCues, trackMs, badTimes, judgeTimes, judgeEnd, judgeUnpack, answerBy, doneWith, unpackOf}
-use Rattle.unpack.specs.Rows.{rowTimes, endOf}
+use Rattle.unpack.specs.declared.Unpacked.{Unpacked}
+use Rattle.unpack.specs.declared.Unpacked.the-variants.{Done, Refused as Stopped}
+use Rattle.unpack.specs.declared.Listed.{Listed}
+use Rattle.unpack.specs.Unpacking.{trackCues, trackMs, badTimes, judgeTimes, judgeEnd, judgeUnpack, answerBy, doneWith, unpackRoom, roomed, unpackOf, outOf}
+use Rattle.unpack.specs.Rows.{rowTimes, endOf, rowsRoom, refusedBy, Measurable, Written, RowsOf, ReadAs}
 use Rattle.unpack.proofs.Kept.{EachCue, EachBody, unpack-keeps}
 
 -- ---- the cues of a track without fault are sound
@@ -133,64 +135,141 @@ module _ (samples tab : List ℕ) (n : ℕ) where
     pool-length = ap length (sym pool-whole) ∙ length-pool samples tab n p n (le-refl n)
 
     -- said of the rows, and of the cues
-    pub end-same : (scale T records pool : ℕ) → endOf scale tab n T records pool ≡ judgeEnd scale T (known samples tab n) records pool
+    pub end-same : (scale T : ℕ) → endOf scale tab n T ≡ judgeEnd scale T (known samples tab n)
     unfolding endOf judgeEnd
-    end-same scale T records pool =
-        rw (length-known samples tab n, records-length scale, pool-length, times-same scale)
+    end-same scale T = rw (length-known samples tab n, times-same scale)
+
+    pub room-same : (scale T : ℕ) → rowsRoom scale tab n T ≡ answerBy (judgeEnd scale T (known samples tab n)) (doneWith scale T (known samples tab n))
+    unfolding rowsRoom doneWith
+    room-same scale T = rw (end-same scale T, records-length scale, pool-length)
 
 -- what it says where it finds no fault
-pub record Ended (scale : ℕ) (tab : List ℕ) (n T records pool : ℕ) : Type 0 where
+pub record Ended (scale : ℕ) (tab : List ℕ) (n T : ℕ) : Type 0 where
   pub in-time : (i : ℕ) → i < n → InTime scale (rowAt tab i)
   pub limits : Limits scale T
-  pub records-room : n * 24 ≤ records
-  pub pool-room : sizeTo tab n ≤ pool
 
 neither : (a b : Bool) → one-of a b ≡ false → (a ≡ false) × (b ≡ false)
 neither true b e = let z : _≡_ {A = ℕ} 0 1 = cc in absurd (omega arith)
 neither false b e = (refl, e)
 
-pub end-fine : (scale : ℕ) (tab : List ℕ) (n T records pool : ℕ) → endOf scale tab n T records pool ≡ Fine → Ended scale tab n T records pool
+pub end-fine : (scale : ℕ) (tab : List ℕ) (n T : ℕ) → endOf scale tab n T ≡ Fine → Ended scale tab n T
 unfolding endOf rowTimes badTimes
-end-fine scale tab n T records pool e =
+end-fine scale tab n T e =
     let a = both-fine (each (rowTimes scale tab) n) _ e in
-    let b = both-fine (not (timelineAllowed scale T) gives 10 at n) _ (a .1) in
-    let c = both-fine (ltb records (n * 24) gives 15 at 0) (ltb pool (sizeTo tab n) gives 15 at 1) (b .1) in
     record {
       in-time = λ i l.
           let t = not-given (badTimes scale (rowAt tab i .start) (rowAt tab i .end)) 10 i (each-fine (rowTimes scale tab) n i (a .0) l) in
           let x = neither (ltb 359999999 (back scale (rowAt tab i .start))) _ t in
           let y = neither (ltb 359999999 (back scale (rowAt tab i .end))) (leb (back scale (rowAt tab i .end)) (back scale (rowAt tab i .start))) (x .1) in
           (ltb-false 359999999 (back scale (rowAt tab i .start)) (x .0), ltb-false 359999999 (back scale (rowAt tab i .end)) (y .0));
-      limits = timeline-limits scale T (not-false (timelineAllowed scale T) (not-given (not (timelineAllowed scale T)) 10 n (b .0)));
-      records-room = ltb-false records (n * 24) (not-given (ltb records (n * 24)) 15 0 (c .0));
-      pool-room = ltb-false pool (sizeTo tab n) (not-given (ltb pool (sizeTo tab n)) 15 1 (c .1));
+      limits = timeline-limits scale T (not-false (timelineAllowed scale T) (not-given (not (timelineAllowed scale T)) 10 n (a .1)));
     }
 
+-- a room with lengths: nothing is at fault, and the lengths are those of the rows
+pub room-fine : (scale : ℕ) (tab : List ℕ) (n T : ℕ) (u : Unpacked) (x y z : ℕ) → u ≡ rowsRoom scale tab n T → u ≡ Done x y z
+    → Ended scale tab n T × (x ≡ n * 24) × (y ≡ sizeTo tab n)
+unfolding rowsRoom
+room-fine scale tab n T u x y z e q = go (endOf scale tab n T) refl
+  where
+    apart : (r : Refusal) → rowsRoom scale tab n T ≡ Stopped r → _≡_ {A = ℕ} 0 1
+    apart r k = cc
+
+    same : rowsRoom scale tab n T ≡ Done (n * 24) (sizeTo tab n) T → (x ≡ n * 24) × (y ≡ sizeTo tab n)
+    same k = ((cc), (cc))
+
+    go : (v : Verdict) → endOf scale tab n T ≡ v → Ended scale tab n T × (x ≡ n * 24) × (y ≡ sizeTo tab n)
+    go (Refused r) f = absurd (omega (arith, apart r (ap (λ (v : Verdict). answerBy v (Done (n * 24) (sizeTo tab n) T)) f)))
+    go Fine f = let w = same (ap (λ (v : Verdict). answerBy v (Done (n * 24) (sizeTo tab n) T)) f) in (end-fine scale tab n T f, w .0, w .1)
+
+-- a room with a refusal is the answer, and leaves an output as it is
+pub room-refused : (a b : ℕ) (u w : Unpacked) (r : Refusal) → u ≡ w → u ≡ Stopped r → (u ≡ roomed a b w) × ((x d : List ℕ) → d ≡ outOf u x d)
+room-refused a b u w r e q = (q ∙ ap (roomed a b) (sym q ∙ e), λ x d. ap (λ (z : Unpacked). outOf z x d) (sym q))
+
+-- lengths that fit are the answer; and the other way round
+pub room-fits : (a b n p t : ℕ) → n ≤ a → p ≤ b → roomed a b (Done n p t) ≡ Done n p t
+room-fits a b n p t h k = rw (le-ltb a n h, le-ltb b p k)
+
+pub room-done : (a b : ℕ) (u : Unpacked) (n p t : ℕ) → roomed a b u ≡ Done n p t → u ≡ Done n p t
+room-done a b (Stopped r) n p t e = e
+room-done a b (Done x y z) n p t e =
+    either x a
+    (λ h. either y b (λ k. sym (room-fits a b x y z h k) ∙ e) (λ k. let q : roomed a b (Done x y z) ≡ Stopped (fault 15 1) = rw (le-ltb a x h, lt-ltb b y k) in absurd (apart _ q)))
+    (λ h. let q : roomed a b (Done x y z) ≡ Stopped (fault 15 0) = rw (lt-ltb a x h) in absurd (apart _ q))
+  where
+    apart : (r : Refusal) → roomed a b (Done x y z) ≡ Stopped r → ⊥
+    apart r q = let k : _≡_ {A = ℕ} 0 1 = cc in omega arith
+
+pub written-measurable : (scale : ℕ) (samples tab : List ℕ) (n sum : ℕ) → Written scale samples tab n sum → Measurable scale tab n sum
+written-measurable scale samples tab n sum w = record {
+  scaled = w .scaled;
+  most = w .most;
+  rows = w .rows;
+  below = λ i h. (w .ready i h .start-below, w .ready i h .end-below);
+  short = λ i h. w .ready i h .short;
+  sum-below = w .sum-below;
+}
+
 -- ---- the answer, stage by stage
-
-module _ (scale : ℕ) (table samples : List ℕ) (records pool : ℕ) where
-  pub scale-refused : scaleAllowed scale ≡ false → Stopped (fault 10 0) ≡ unpackOf scale table samples records pool
-  unfolding unpackOf judgeUnpack
-  scale-refused e = rw e
-
-  module _ (ok : scaleAllowed scale ≡ true) where
-    pub track-refused : (r : Refusal) → judgeTrack table samples ≡ Refused r → Stopped r ≡ unpackOf scale table samples records pool
-    unfolding unpackOf judgeUnpack
-    track-refused r e = rw (ok, e)
-
-    module _ (fine : judgeTrack table samples ≡ Fine) where
-      pub list-stopped : (m i : ℕ) → stopped m i ≡ unpack (trackOf table samples) → Stopped (fault m i) ≡ unpackOf scale table samples records pool
-      unfolding unpackOf judgeUnpack
-      list-stopped m i e = rw (ok, fine, ← e)
-
-      pub list-done : (cs : List Cue) → done cs ≡ unpack (trackOf table samples)
-          → answerBy (judgeEnd scale (trackMs scale table samples) cs records pool) (doneWith scale (trackMs scale table samples) cs) ≡ unpackOf scale table samples records pool
-      unfolding unpackOf judgeUnpack trackCues
-      list-done cs e = rw (ok, fine, ← e)
 
 pub cues-done : (table samples : List ℕ) (cs : List Cue) → done cs ≡ unpack (trackOf table samples) → cs ≡ trackCues table samples
 unfolding trackCues
 cues-done table samples cs e = rw (← e)
+
+module _ (scale : ℕ) (table samples : List ℕ) where
+  pub scale-refused : scaleAllowed scale ≡ false → Stopped (fault 10 0) ≡ unpackRoom scale table samples
+  unfolding unpackRoom judgeUnpack
+  scale-refused e = rw e
+
+  module _ (ok : scaleAllowed scale ≡ true) where
+    pub track-refused : (r : Refusal) → judgeTrack table samples ≡ Refused r → Stopped r ≡ unpackRoom scale table samples
+    unfolding unpackRoom judgeUnpack
+    track-refused r e = rw (ok, e)
+
+    module _ (fine : judgeTrack table samples ≡ Fine) where
+      pub list-stopped : (m i : ℕ) → stopped m i ≡ unpack (trackOf table samples) → Stopped (fault m i) ≡ unpackRoom scale table samples
+      unfolding unpackRoom judgeUnpack
+      list-stopped m i e = rw (ok, fine, ← e)
+
+      pub list-done : (cs : List Cue) → done cs ≡ unpack (trackOf table samples)
+          → answerBy (judgeEnd scale (trackMs scale table samples) cs) (doneWith scale (trackMs scale table samples) cs) ≡ unpackRoom scale table samples
+      unfolding unpackRoom judgeUnpack trackCues
+      list-done cs e = rw (ok, fine, ← e)
+
+      -- the rows that were gathered are those of the track's cues
+      pub rows-are : (tab : List ℕ) (n sum : ℕ) → n * 9 ≤ length tab → n ≤ 1024 → Good (length samples) tab n → sum ≡ total (trackOf table samples)
+          → sum < 281474976710656 → done (known samples tab n) ≡ unpack (trackOf table samples) → RowsOf scale table samples tab n sum
+      unfolding trackMs
+      rows-are tab n sum rows most good sums below e =
+          let is = cues-done table samples (known samples tab n) e in
+          record {
+            written = record {
+              scaled = scale-limits scale ok .0;
+              most = most;
+              rows = rows;
+              ready = rows-ready table samples fine tab n good e (omega (arith, sums, below));
+              sum-below = below;
+            };
+            cues = is;
+            room = ap (λ (t : ℕ). answerBy (judgeEnd scale (back scale t) (trackCues table samples)) (doneWith scale (back scale t) (trackCues table samples))) sums
+                ∙ ap (λ (cs : List Cue). answerBy (judgeEnd scale (back scale (total (trackOf table samples))) cs) (doneWith scale (back scale (total (trackOf table samples))) cs)) (sym is)
+                ∙ list-done (known samples tab n) e;
+          }
+
+pub read-refused : (scale : ℕ) (table samples tab : List ℕ) (l : Listed) (v : Verdict) (r : Refusal) → l ≡ refusedBy v → v ≡ Refused r
+    → Stopped r ≡ unpackRoom scale table samples → ReadAs scale table samples tab l
+read-refused scale table samples tab l v r e t h = subst⁻¹ (ReadAs scale table samples tab) (e ∙ ap refusedBy t) h
+
+module _ (scale : ℕ) (table samples tab : List ℕ) (n sum : ℕ) (w : RowsOf scale table samples tab n sum) where
+  -- the room for the rows is that of the track, and so is the answer
+  pub rows-room : rowsRoom scale tab n (back scale sum) ≡ unpackRoom scale table samples
+  rows-room =
+      room-same samples tab n (λ i h. w .written .ready i h .placed) scale (back scale sum)
+      ∙ ap (λ (cs : List Cue). answerBy (judgeEnd scale (back scale sum) cs) (doneWith scale (back scale sum) cs)) (w .cues)
+      ∙ w .room
+
+  pub rows-answer : (a b : ℕ) → roomed a b (rowsRoom scale tab n (back scale sum)) ≡ unpackOf scale table samples a b
+  unfolding unpackOf
+  rows-answer a b = ap (roomed a b) rows-room
 
 -- ---- the loop over the rows' times
 

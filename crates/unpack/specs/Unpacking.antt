@@ -4,11 +4,11 @@ use mathlib.Core.Bool.{Bool, not}
 use mathlib.Core.List.{List, []}
 use lib.Dec.{leb, ltb}
 use lib.ListN.{length, getD}
-use Rattle.base.specs.Choice.{one-of}
+use Rattle.base.specs.Choice.{one-of, pick}
 use Rattle.base.specs.Over.{over}
 use Rattle.verdict.specs.declared.Verdict.{Verdict}
 use Rattle.verdict.specs.declared.Verdict.the-variants.{Fine, Refused}
-use Rattle.verdict.specs.Judgement.{refuse, _gives_at_, _then_, each}
+use Rattle.verdict.specs.Judgement.{fault, refuse, _gives_at_, _then_, each}
 use Rattle.times.specs.Times.{back, scaleAllowed, timelineAllowed}
 use Rattle.timeline.specs.Cues.{Cue}
 use Rattle.timeline.specs.Tracks.{total}
@@ -43,21 +43,17 @@ badTimes scale b e = one-of (ltb 359999999 (back scale b)) (one-of (ltb 35999999
 unfoldable pub judgeTimes : ℕ → List Cue → ℕ → Verdict
 judgeTimes scale cs i = badTimes scale (getD cs i noCue .start) (getD cs i noCue .end) gives 10 at i
 
--- times of each record, then T (10, place the record count); then room (15): records (0), pool (1)
-unfoldable pub judgeEnd : ℕ → ℕ → List Cue → ℕ → ℕ → Verdict
-judgeEnd scale T cs records pool =
-    each (judgeTimes scale cs) (length cs)
-    then not (timelineAllowed scale T) gives 10 at length cs
-    then ltb records (length (recordsOf scale cs)) gives 15 at 0
-    then ltb pool (length (poolOf cs)) gives 15 at 1
+-- times of each record, then T (10, place the record count)
+unfoldable pub judgeEnd : ℕ → ℕ → List Cue → Verdict
+judgeEnd scale T cs = each (judgeTimes scale cs) (length cs) then not (timelineAllowed scale T) gives 10 at length cs
 
--- scale (10), the track, the cues in its samples, times and room
-unfoldable pub judgeUnpack : ℕ → List ℕ → List ℕ → ℕ → ℕ → Verdict
-judgeUnpack scale table samples records pool =
+-- scale (10), the track, the cues in its samples, times
+unfoldable pub judgeUnpack : ℕ → List ℕ → List ℕ → Verdict
+judgeUnpack scale table samples =
     not (scaleAllowed scale) gives 10 at 0
     then judgeTrack table samples
     then stopsAt (unpack (trackOf table samples))
-    then judgeEnd scale (trackMs scale table samples) (trackCues table samples) records pool
+    then judgeEnd scale (trackMs scale table samples) (trackCues table samples)
 
 abbrev pub answerBy : Verdict → Unpacked → Unpacked
 answerBy Fine u = u
@@ -67,10 +63,20 @@ answerBy (Refused r) u = Stopped r
 unfoldable pub doneWith : ℕ → ℕ → List Cue → Unpacked
 doneWith scale T cs = Done (length (recordsOf scale cs)) (length (poolOf cs)) T
 
+-- the room that unpacking needs, which is its answer where there is enough
+unfoldable pub unpackRoom : ℕ → List ℕ → List ℕ → Unpacked
+unfolding judgeUnpack doneWith
+unpackRoom scale table samples = answerBy (judgeUnpack scale table samples) (doneWith scale (trackMs scale table samples) (trackCues table samples))
+
+-- 15: the records do not fit (place 0), the pool does not (place 1)
+abbrev pub roomed : ℕ → ℕ → Unpacked → Unpacked
+roomed records pool (Done n p t) = pick (ltb records n) (Stopped (fault 15 0)) (pick (ltb pool p) (Stopped (fault 15 1)) (Done n p t))
+roomed records pool (Stopped r) = Stopped r
+
 -- the answer, by the room that there is for records and pool
 unfoldable pub unpackOf : ℕ → List ℕ → List ℕ → ℕ → ℕ → Unpacked
-unfolding judgeUnpack doneWith
-unpackOf scale table samples records pool = answerBy (judgeUnpack scale table samples records pool) (doneWith scale (trackMs scale table samples) (trackCues table samples))
+unfolding unpackRoom
+unpackOf scale table samples records pool = roomed records pool (unpackRoom scale table samples)
 
 -- an output: the bytes over its front on success, else as it was
 abbrev pub outOf : Unpacked → List ℕ → List ℕ → List ℕ

@@ -19,15 +19,19 @@ ghost use Rattle.verdict.specs.Judgement.{each};
 ghost use Rattle.times.specs.Times.{back, timelineAllowed};
 ghost use Rattle.rows.specs.Table.{rowAt, known};
 ghost use Rattle.unpack_write.specs.Records.{recordsOf, poolOf};
-ghost use Rattle.unpack_write.specs.Rows.{Short, Ready};
-ghost use Rattle.unpack.specs.declared.Unpacked.the-variants.{Done};
-ghost use Rattle.unpack.specs.Unpacking.{badTimes, trackCues, judgeEnd, answerBy, doneWith, unpackOf, outOf};
-ghost use Rattle.unpack.specs.Rows.{rowTimes, endOf, faultOf};
+ghost use Rattle.unpack.specs.Unpacking.{badTimes, trackCues, unpackRoom, roomed, unpackOf, outOf};
+ghost use Rattle.unpack.specs.Rows.{rowTimes, endOf, rowsRoom, refusedBy, Measurable, Written, ReadAs};
 
 // The lengths of records and pool in bytes and T in milliseconds, or a refusal.
 pub enum Unpacked {
     Done { records: usize, pool: usize, t: u32 },
     Refused(Refusal),
+}
+
+// What a track was read as: the number of its cues, gathered as rows, and the sum of its durations; or why it was not.
+enum Listed {
+    Rows { count: usize, total: usize },
+    Stopped(Refusal),
 }
 
 // A time is above the largest, or the start is not below the end.
@@ -74,17 +78,10 @@ fn total_allowed(scale: u32, total: usize) -> bool
     timeline_allowed(scale, m as u32)
 }
 
-// Times, T and room.
-fn judge_end(
-    scale: u32,
-    tab: &[usize],
-    n: usize,
-    total: usize,
-    records: usize,
-    pool: usize,
-) -> Verdict
-    requires { ⌜ (0 < scale) × (n ≤ 1024) × (n * 9 ≤ length (now tab)) × ((i : ℕ) → i < n → (rowAt (now tab) i .start < 281474976710656) × (rowAt (now tab) i .end < 281474976710656)) × ((i : ℕ) → i < n → Short (rowAt (now tab) i)) × (total < 281474976710656) ⌝ }
-    ensures { λ r. ⌜ r ≡ endOf scale (now (tab .entry)) n (back scale total) records pool ⌝ }
+// Times and T.
+fn judge_end(scale: u32, tab: &[usize], n: usize, total: usize) -> Verdict
+    requires { ⌜ (0 < scale) × (n * 9 ≤ length (now tab)) × ((i : ℕ) → i < n → (rowAt (now tab) i .start < 281474976710656) × (rowAt (now tab) i .end < 281474976710656)) × (total < 281474976710656) ⌝ }
+    ensures { λ r. ⌜ r ≡ endOf scale (now (tab .entry)) n (back scale total) ⌝ }
 {
     let v = judge_times(scale, tab, n);
     let Verdict::Fine = v else {
@@ -93,44 +90,54 @@ fn judge_end(
     if !total_allowed(scale, total) {
         return refused(10, n);
     }
-    if records < n * 24 {
-        return refused(15, 0);
-    }
-    if pool < pool_size(tab, n) {
-        return refused(15, 1);
-    }
     Verdict::Fine
 }
 
-// A verdict as an answer; one without fault is not asked.
-fn refusal_of(v: Verdict) -> Unpacked
-    ensures { λ r. ⌜ r ≡ answerBy v (Done 0 0 0) ⌝ }
+// The room for n rows, whose durations have this sum.
+fn measure_rows(scale: u32, tab: &[usize], n: usize, total: usize) -> Unpacked
+    requires { ⌜ Measurable scale (now tab) n total ⌝ }
+    ensures { λ r. ⌜ r ≡ rowsRoom scale (now (tab .entry)) n (back scale total) ⌝ }
+{
+    let v = judge_end(scale, tab, n, total);
+    let Verdict::Refused(why) = v else {
+        return Unpacked::Done {
+            records: n * 24,
+            pool: pool_size(tab, n),
+            t: ms_of(scale, total as u64) as u32,
+        };
+    };
+    Unpacked::Refused(why)
+}
+
+// The refusal of a verdict; one without fault is not asked.
+fn refused_by(v: Verdict) -> Listed
+    ensures { λ r. ⌜ r ≡ refusedBy v ⌝ }
 {
     match v {
-        Verdict::Fine => Unpacked::Done {
-            records: 0,
-            pool: 0,
-            t: 0,
-        },
-        Verdict::Refused(why) => Unpacked::Refused(why),
+        Verdict::Fine => Listed::Rows { count: 0, total: 0 },
+        Verdict::Refused(why) => Listed::Stopped(why),
     }
 }
 
-// The fault of a sample as an answer; a list is not asked.
-fn fault_of(g: Gathered) -> Unpacked
-    ensures { λ r. ⌜ r ≡ faultOf g ⌝ }
+// Judges a track and gathers its cues into the rows of a table.
+fn read_track(scale: u32, table: &[u8], samples: &[u8], tab: &mut [usize]) -> Listed
+    requires { ⌜ length (now tab) ≡ 9216 ⌝ }
+    ensures { λ r. ⌜ ReadAs scale (now (table .entry)) (now (samples .entry)) (now (tab .exit)) r ⌝ }
 {
-    match g {
-        Gathered::All { count: _, total: _ } => Unpacked::Done {
-            records: 0,
-            pool: 0,
-            t: 0,
-        },
-        Gathered::Fault { number, place } => Unpacked::Refused(fault_at(number, place)),
+    if !scale_allowed(scale) {
+        return Listed::Stopped(fault_at(10, 0));
+    }
+    let v = judge_track(table, samples);
+    let Verdict::Fine = v else {
+        return refused_by(v);
+    };
+    match gather(table, samples, &mut *tab) {
+        Gathered::All { count, total } => Listed::Rows { count, total },
+        Gathered::Fault { number, place } => Listed::Stopped(fault_at(number, place)),
     }
 }
 
-// Times and room of the first n rows, whose durations have this sum; then the records and the pool are written.
+// The rows as records and pool, where there is room.
 fn write_list(
     scale: u32,
     samples: &[u8],
@@ -140,18 +147,37 @@ fn write_list(
     records: &mut [u8],
     pool: &mut [u8],
 ) -> Unpacked
-    requires { ⌜ (0 < scale) × (n ≤ 1024) × (n * 9 ≤ length (now tab)) × ((i : ℕ) → i < n → Ready (length (now samples)) (rowAt (now tab) i)) × (total < 281474976710656) ⌝ }
-    ensures { λ r. ⌜ (r ≡ answerBy (judgeEnd scale (back scale total) (known (now (samples .entry)) (now (tab .entry)) n) (length (now (records .entry))) (length (now (pool .entry)))) (doneWith scale (back scale total) (known (now (samples .entry)) (now (tab .entry)) n))) × (now (records .exit) ≡ outOf r (recordsOf scale (known (now (samples .entry)) (now (tab .entry)) n)) (now (records .entry))) × (now (pool .exit) ≡ outOf r (poolOf (known (now (samples .entry)) (now (tab .entry)) n)) (now (pool .entry))) ⌝ }
+    requires { ⌜ Written scale (now samples) (now tab) n total ⌝ }
+    ensures { λ r. ⌜ (r ≡ roomed (length (now (records .entry))) (length (now (pool .entry))) (rowsRoom scale (now (tab .entry)) n (back scale total))) × (now (records .exit) ≡ outOf r (recordsOf scale (known (now (samples .entry)) (now (tab .entry)) n)) (now (records .entry))) × (now (pool .exit) ≡ outOf r (poolOf (known (now (samples .entry)) (now (tab .entry)) n)) (now (pool .entry))) ⌝ }
 {
-    let v = judge_end(scale, tab, n, total, records.len(), pool.len());
-    let Verdict::Fine = v else {
-        return refusal_of(v);
+    let room = measure_rows(scale, tab, n, total);
+    let Unpacked::Done {
+        records: rows,
+        pool: texts,
+        t: _,
+    } = room
+    else {
+        return room;
     };
+    if records.len() < rows {
+        return Unpacked::Refused(fault_at(15, 0));
+    }
+    if pool.len() < texts {
+        return Unpacked::Refused(fault_at(15, 1));
+    }
     put_rows(scale, samples, tab, n, &mut *records, &mut *pool);
-    Unpacked::Done {
-        records: n * 24,
-        pool: pool_size(tab, n),
-        t: ms_of(scale, total as u64) as u32,
+    room
+}
+
+// The room that unpacking needs: what it answers where there is enough.
+pub fn unpack_room(scale: u32, table: &[u8], samples: &[u8]) -> Unpacked
+    ensures { λ r. ⌜ r ≡ unpackRoom scale (now (table .entry)) (now (samples .entry)) ⌝ }
+{
+    let mut tab = [0usize; 9216];
+    let list = read_track(scale, table, samples, &mut tab);
+    match list {
+        Listed::Rows { count, total } => measure_rows(scale, &tab, count, total),
+        Listed::Stopped(why) => Unpacked::Refused(why),
     }
 }
 
@@ -165,25 +191,18 @@ pub fn unpack(
 ) -> Unpacked
     ensures { λ r. ⌜ (r ≡ unpackOf scale (now (table .entry)) (now (samples .entry)) (length (now (records .entry))) (length (now (pool .entry)))) × (now (records .exit) ≡ outOf r (recordsOf scale (trackCues (now (table .entry)) (now (samples .entry)))) (now (records .entry))) × (now (pool .exit) ≡ outOf r (poolOf (trackCues (now (table .entry)) (now (samples .entry)))) (now (pool .entry))) ⌝ }
 {
-    if !scale_allowed(scale) {
-        return Unpacked::Refused(fault_at(10, 0));
-    }
-    let v = judge_track(table, samples);
-    let Verdict::Fine = v else {
-        return refusal_of(v);
-    };
     let mut tab = [0usize; 9216];
-    let g = gather(table, samples, &mut tab);
-    let Gathered::All { count, total } = g else {
-        return fault_of(g);
-    };
-    write_list(
-        scale,
-        samples,
-        &tab,
-        count,
-        total,
-        &mut *records,
-        &mut *pool,
-    )
+    let list = read_track(scale, table, samples, &mut tab);
+    match list {
+        Listed::Rows { count, total } => write_list(
+            scale,
+            samples,
+            &tab,
+            count,
+            total,
+            &mut *records,
+            &mut *pool,
+        ),
+        Listed::Stopped(why) => Unpacked::Refused(why),
+    }
 }

@@ -39,9 +39,9 @@ use Rattle.cues.proofs.Sound.{fine-sound, sound-fine, fine-proper, fine-few, cu
 use Rattle.unpack_write.specs.Records.{idOf, recordsOf, poolOf}
 use Rattle.unpack.specs.declared.Unpacked.{Unpacked}
 use Rattle.unpack.specs.declared.Unpacked.the-variants.{Done, Refused as Stopped}
-use Rattle.unpack.specs.Unpacking.{stopsAt, listIn, trackCues, trackMs, badTimes, judgeTimes, judgeEnd, judgeUnpack, answerBy, doneWith, unpackOf}
+use Rattle.unpack.specs.Unpacking.{stopsAt, listIn, trackCues, trackMs, badTimes, judgeTimes, judgeEnd, judgeUnpack, answerBy, doneWith, unpackRoom, roomed, unpackOf}
 use Rattle.track.proofs.Samples.{track-positive}
-use Rattle.unpack.proofs.Laws.{list-sound, list-done, cues-done}
+use Rattle.unpack.proofs.Laws.{list-sound, list-done, cues-done, room-fits, room-done}
 use Rattle.unpack_laws.proofs.Reading.{Fits, length-recs, count-recs, id-read, start-read, end-read, identifier-read, settings-read, payload-read, reserved-read, identifier-is, settings-is, payload-is, texts-inside, cues-are}
 
 -- ---- a success
@@ -83,23 +83,22 @@ pub record Success (scale : ℕ) (table samples : List ℕ) (n p t : ℕ) : Type
   pub timeline : t ≡ back scale (total (trackOf table samples))
 
 pub success : (scale : ℕ) (table samples : List ℕ) (a b n p t : ℕ) → unpackOf scale table samples a b ≡ Done n p t → Success scale table samples n p t
-unfolding unpackOf judgeUnpack doneWith judgeEnd judgeTimes trackCues trackMs
+unfolding unpackOf unpackRoom judgeUnpack doneWith judgeEnd judgeTimes trackCues trackMs
 success scale table samples a b n p t e =
     let cs = trackCues table samples in
     let T = trackMs scale table samples in
-    let w = answered (judgeUnpack scale table samples a b) (doneWith scale T cs) n p t e in
+    let w = answered (judgeUnpack scale table samples) (doneWith scale T cs) n p t (room-done a b (unpackRoom scale table samples) n p t e) in
     let v1 = both-fine (not (scaleAllowed scale) gives 10 at 0) _ (w .0) in
     let v2 = both-fine (judgeTrack table samples) _ (v1 .1) in
     let v3 = both-fine (stopsAt (unpack (trackOf table samples))) _ (v2 .1) in
     let v4 = both-fine (each (judgeTimes scale cs) (length cs)) _ (v3 .1) in
-    let v5 = both-fine (not (timelineAllowed scale T) gives 10 at length cs) _ (v4 .1) in
     let q : T ≡ t = ap time (w .1) in
     record {
       scaled = scale-limits scale (not-false (scaleAllowed scale) (not-given (not (scaleAllowed scale)) 10 0 (v1 .0)));
       fine = v2 .0;
       list = listed-all (unpack (trackOf table samples)) (v3 .0);
       times = λ i l. not-bad scale (getD cs i noCue) (not-given (badTimes scale (getD cs i noCue .start) (getD cs i noCue .end)) 10 i (each-fine (judgeTimes scale cs) (length cs) i (v4 .0) l));
-      limits = subst (Limits scale) q (timeline-limits scale T (not-false (timelineAllowed scale T) (not-given (not (timelineAllowed scale T)) 10 (length cs) (v5 .0))));
+      limits = subst (Limits scale) q (timeline-limits scale T (not-false (timelineAllowed scale T) (not-given (not (timelineAllowed scale T)) 10 (length cs) (v4 .1))));
       records = sym (ap first (w .1));
       pool = sym (ap second (w .1));
       timeline = sym q;
@@ -308,7 +307,7 @@ module _ (scale T : ℕ) (recs pool : List ℕ) (fine : judgeList scale T recs p
   pub comes-back : (table samples : List ℕ) (a b : ℕ) → judgeTrack table samples ≡ Fine → trackOf table samples ≡ packed (cuesOf scale recs pool) (tick scale T)
       → length recs ≤ a → length (poolOf (cuesOf scale recs pool)) ≤ b
       → (unpackOf scale table samples a b ≡ Done (length recs) (length (poolOf (cuesOf scale recs pool))) T) × (trackCues table samples ≡ cuesOf scale recs pool)
-  unfolding judgeEnd doneWith trackMs
+  unfolding unpackOf judgeEnd doneWith trackMs
   comes-back table samples a b f e ra rb =
       let cs = cuesOf scale recs pool in
       let proper = fine-proper scale T recs pool fine in
@@ -316,10 +315,12 @@ module _ (scale T : ℕ) (recs pool : List ℕ) (fine : judgeList scale T recs p
       let ms : trackMs scale table samples ≡ T = ap (back scale) (ap total e ∙ packed-right cs (tick scale T) proper .sums) ∙ back-tick scale T large in
       let ok = scale-fine scale T (sound .limits) in
       let k = same-length in
-      let ended : judgeEnd scale T cs a b ≡ Fine = rw (each-all (judgeTimes scale cs) (length cs) good-times, limits-timeline scale T (sound .limits), le-ltb a (length (recordsOf scale cs)) (omega arith), le-ltb b (length (poolOf cs)) rb) in (
-        sym (list-done scale table samples a b ok f cs (sym list))
-            ∙ ap (λ (t : ℕ). answerBy (judgeEnd scale t cs a b) (doneWith scale t cs)) ms
-            ∙ ap (λ (v : Verdict). answerBy v (doneWith scale T cs)) ended
-            ∙ ap (λ (n : ℕ). Done n (length (poolOf cs)) T) k,
+      let ended : judgeEnd scale T cs ≡ Fine = rw (each-all (judgeTimes scale cs) (length cs) good-times, limits-timeline scale T (sound .limits)) in
+      let room : unpackRoom scale table samples ≡ Done (length recs) (length (poolOf cs)) T =
+      sym (list-done scale table samples ok f cs (sym list))
+      ∙ ap (λ (t : ℕ). answerBy (judgeEnd scale t cs) (doneWith scale t cs)) ms
+      ∙ ap (λ (v : Verdict). answerBy v (doneWith scale T cs)) ended
+      ∙ ap (λ (n : ℕ). Done n (length (poolOf cs)) T) k in (
+        ap (roomed a b) room ∙ room-fits a b (length recs) (length (poolOf cs)) T ra rb,
         sym (cues-done table samples cs (sym list)),
       )

@@ -30,7 +30,7 @@ pub fn copy_run(out: &mut [u8], at: usize, src: &[u8], from: usize, n: usize)
 }
 
 // The size and the type of a box.
-fn put_header(out: &mut [u8], at: usize, size: u32, kind: u32)
+pub fn put_header(out: &mut [u8], at: usize, size: u32, kind: u32)
     requires { ⌜ at + 8 ≤ length (now out) ⌝ }
     ensures { λ _. ⌜ now (out .exit) ≡ wrote (now (out .entry)) at (bytes 4 size ++ bytes 4 kind) ⌝ }
 {
@@ -39,8 +39,8 @@ fn put_header(out: &mut [u8], at: usize, size: u32, kind: u32)
 }
 
 // A box whose body is n bytes of the pool.
-fn put_text(out: &mut [u8], at: usize, kind: u32, pool: &[u8], from: usize, n: usize)
-    requires { ⌜ (at + 8 + n ≤ length (now out)) × (from + n ≤ length (now pool)) × (n ≤ 65535) ⌝ }
+pub fn put_text(out: &mut [u8], at: usize, kind: u32, pool: &[u8], from: usize, n: usize)
+    requires { ⌜ (at + 8 + n ≤ length (now out)) × (from + n ≤ length (now pool)) × (n + 8 ≤ 4294967295) ⌝ }
     ensures { λ _. ⌜ now (out .exit) ≡ wrote (now (out .entry)) at (boxBytes kind (part (now (pool .entry)) from (from + n))) ⌝ }
 {
     put_header(&mut *out, at, (n + 8) as u32, kind);

@@ -78,8 +78,13 @@ pub fn head(more: &str) {
     );
 }
 
-/// One row: the proved library, the plain version, then any others.
-pub fn row(operation: &str, input: &str, item: &str, times: &[f64]) {
+/// A row of the proved library and the plain version.
+pub fn compare(names: [&str; 3], items: &[usize], rivals: [Rival; 2]) {
+    row(names, &measure(items, rivals));
+}
+
+/// One row: operation, input and item; the proved library, the plain version, then any others.
+pub fn row([operation, input, item]: [&str; 3], times: &[f64]) {
     print!(
         "| {operation} | {input} | {item} | {:.2} | {:.2} |",
         times[0], times[1]

@@ -1,21 +1,93 @@
-//! `tx3g` inputs.
+//! 3GPP text samples.
 
+use captions::tx3g;
 use captions_harness::generate::box_of;
 use captions_harness::random::Random;
+use captions_model as plain;
 
 use crate::inputs::{text, MIXED};
+use crate::timing::compare;
+use crate::{accepted, each};
 
 const FONTS: u16 = 16;
 
-/// An entry of sixteen fonts.
-pub fn entry() -> Vec<u8> {
-    let mut fonts = FONTS.to_be_bytes().to_vec();
-    for font in 1..=FONTS {
+/// One question of each kind for each sample, about another character each time, and its runs.
+pub fn bench(samples: &[Vec<u8>], input: &str) {
+    let entry = &entry(1, FONTS);
+    bench_reading(entry, samples, input);
+    bench_style(entry, samples, input);
+    bench_runs(entry, samples, input);
+}
+
+fn bench_reading(entry: &[u8], samples: &[Vec<u8>], input: &str) {
+    let ones = vec![1; samples.len()];
+    compare(
+        ["judge tx3g sample", input, "sample"],
+        &ones,
+        [
+            &mut each(samples, |s| accepted(tx3g::Sample::read(entry, s))),
+            &mut each(samples, |s| accepted(plain::tx3g::read_sample(entry, s))),
+        ],
+    );
+    compare(
+        ["text box", input, "question"],
+        &ones,
+        [
+            &mut each(samples, |s| accepted(tx3g::text_box(entry, s))),
+            &mut each(samples, |s| accepted(plain::tx3g::text_box(entry, s))),
+        ],
+    );
+}
+
+fn bench_style(entry: &[u8], samples: &[Vec<u8>], input: &str) {
+    let ones = vec![1; samples.len()];
+    let asked = samples.iter().enumerate().map(|(index, s)| {
+        let read = plain::tx3g::read_sample(entry, s).expect("a good sample");
+        (index * 37 % read.characters, s.as_slice())
+    });
+    let asked: Vec<(usize, &[u8])> = asked.collect();
+    compare(
+        ["style", input, "question"],
+        &ones,
+        [
+            &mut each(&asked, |&(k, s)| accepted(tx3g::style(entry, s, k))),
+            &mut each(&asked, |&(k, s)| accepted(plain::tx3g::style(entry, s, k))),
+        ],
+    );
+}
+
+/// The runs of samples that are read before.
+fn bench_runs(entry: &[u8], samples: &[Vec<u8>], input: &str) {
+    let proved = samples.iter().map(|s| tx3g::Sample::read(entry, s));
+    let proved: Vec<_> = proved.map(|s| s.expect("a good sample").runs()).collect();
+    let walk = samples.iter().map(|s| plain::runs::runs(entry, s));
+    let walk: Vec<_> = walk.map(|runs| runs.expect("a good sample")).collect();
+    let runs: Vec<usize> = walk.iter().map(|runs| runs.clone().count()).collect();
+    compare(
+        ["runs", input, "run"],
+        &runs,
+        [
+            &mut each(&proved, |runs| {
+                let wide = |run: tx3g::Run| run.range.len() * usize::from(run.style.size);
+                runs.clone().map(wide).sum()
+            }),
+            &mut each(&walk, |runs| {
+                let wide = |run: plain::runs::Run| (run.end - run.from) * usize::from(run.look[3]);
+                runs.clone().map(wide).sum()
+            }),
+        ],
+    );
+}
+
+/// An entry of so many fonts from an ID on.
+pub fn entry(first: u16, count: u16) -> Vec<u8> {
+    let mut fonts = count.to_be_bytes().to_vec();
+    for font in first..first + count {
         fonts.extend(font.to_be_bytes());
         fonts.extend(b"\x05Serif");
     }
     let mut fixed = vec![0; 38];
-    fixed[31] = 1; // the default font
+    fixed[30..32].copy_from_slice(&first.to_be_bytes()); // the default font
     fixed.extend(box_of(b"ftab", &fonts));
     box_of(b"tx3g", &fixed)
 }

@@ -1,25 +1,91 @@
-//! Safe functions over the proved captions library: WebVTT (`wvtt`) and 3GPP text (`tx3g`)
-//! samples and sample entries, cue lists and tracks.
+//! Captions in MP4 tracks: WebVTT (`wvtt`) and 3GPP text (`tx3g`) samples and sample entries, cue
+//! lists and tracks, as safe functions over a proved library.
 //!
-//! Everything works on lent bytes. A refusal gives a [`Reason`], a place and, of a bad text, the
-//! offset at which it is bad, and writes nothing; on success bytes past the result keep their
-//! content.
+//! # Pack your first list
+//!
+//! ```
+//! use captions::wvtt::{self, Track};
+//! use captions::{CueList, ListedCue};
+//!
+//! # fn main() -> Result<(), Box<dyn std::error::Error>> {
+//! let mut list = CueList::new();
+//! for (start_ms, end_ms, payload) in [(0, 1500, "Good morning."), (1000, 2500, "Is it?")] {
+//!     list.push_auto(ListedCue { start_ms, end_ms, payload, ..Default::default() })?;
+//! }
+//!
+//! // 1,000 ticks a second, a timeline of 3,000 ms.
+//! let track = Track::pack(1000, 3000, &list)?;
+//! let durations: Vec<u32> = track.samples().map(|sample| sample.duration).collect();
+//! assert_eq!(durations, [1000, 500, 1000, 500]);
+//! track.check(1000, 3000, &list)?;
+//!
+//! // The sample entry beside the track. It needs a label, since every cue has a source ID.
+//! let entry = wvtt::entry_to_vec("WEBVTT", Some("source"), 1)?;
+//! assert_eq!(wvtt::Entry::read(&entry)?.label, Some("source"));
+//! # Ok(())
+//! # }
+//! ```
+//!
+//! # What is where
+//!
+//! The modules [`wvtt`] and [`tx3g`] have the names of the C functions `captions_wvtt_…` and
+//! `captions_tx3g_…` of `include/captions.h`; what has neither prefix stands here. Functions take
+//! lent bytes and allocate nothing, but for those that end in `to_vec` or `to_vecs`. A refusal
+//! gives a [`Reason`], a place and, of a bad text, the offset at which it is bad, and writes
+//! nothing; on success bytes past the result keep their content. Where an operation reads two
+//! things, a [`Fault`] also says which is at fault.
+//!
+//! Over these stand types that are judged once and then read: [`CueList`] and [`CueListRef`],
+//! [`wvtt::Track`], [`wvtt::Sample`], [`wvtt::Entry`], [`tx3g::Entry`] and [`tx3g::Sample`].
+//!
+//! | C | Rust |
+//! |---|---|
+//! | `captions_wvtt_next_cue` | [`wvtt::Sample::cues`], [`wvtt::next_cue`] |
+//! | `captions_wvtt_read_entry` | [`wvtt::Entry::read`] |
+//! | `captions_wvtt_entry_room`, `_write_entry` | [`wvtt::entry_to_vec`], [`wvtt::entry_room`], [`wvtt::write_entry`] |
+//! | `captions_wvtt_pack_room`, `_pack` | [`wvtt::Track::pack`], [`wvtt::pack_to_vecs`], [`wvtt::pack_room`], [`wvtt::pack`] |
+//! | `captions_wvtt_unpack_room`, `_unpack` | [`wvtt::Track::unpack`], [`wvtt::unpack_to_vecs`], [`wvtt::unpack_room`], [`wvtt::unpack`] |
+//! | `captions_wvtt_check` | [`wvtt::Track::check`], [`wvtt::check`] |
+//! | `captions_tx3g_read_entry`, `_font_at` | [`tx3g::Entry::read`], [`tx3g::Entry::fonts`], [`tx3g::font_at`] |
+//! | `captions_tx3g_read_sample` | [`tx3g::Sample::read`] |
+//! | `captions_tx3g_next_run` | [`tx3g::Sample::runs`], [`tx3g::next_run`] |
+//! | `captions_tx3g_next_modifier` | [`tx3g::Sample::modifiers`], [`tx3g::next_modifier`] |
+//! | `captions_ms` | [`milliseconds`] |
+//! | every other | the function of its name |
 
+#![deny(missing_docs)]
+
+mod bytes;
 pub mod ffi;
+pub mod limits;
+mod list;
 mod refusal;
 pub mod tx3g;
+pub mod wvtt;
 
-pub use refusal::{Reason, Refusal};
+pub use list::{judge_list, CueList, CueListRef, ListedCue, ListedCues};
+pub use refusal::{Fault, Reason, Refusal, Who};
 
 use refusal::judged;
 
+/// The version of the library and of this crate.
+pub const VERSION: &str = env!("CARGO_PKG_VERSION");
+
 /// The tick of `ms` at a scale in ticks a second, rounded down.
+///
+/// ```
+/// assert_eq!(captions::tick(1500, 333), 499);
+/// ```
 pub fn tick(scale: u32, ms: u32) -> u64 {
     // SAFETY: numbers only.
     unsafe { ffi::captions_tick(scale, ms) }
 }
 
 /// The milliseconds of a tick, rounded up; none for scale 0 or a tick of 2^48 or more.
+///
+/// ```
+/// assert_eq!(captions::milliseconds(1500, 499), Some(333));
+/// ```
 pub fn milliseconds(scale: u32, tick: u64) -> Option<u64> {
     // SAFETY: numbers only.
     let ms = unsafe { ffi::captions_ms(scale, tick) };
@@ -33,49 +99,10 @@ pub fn judge_utf8(text: &[u8]) -> Result<(), Refusal> {
     judged(unsafe { ffi::captions_judge_utf8(text.as_ptr(), text.len()) })
 }
 
-/// Judges a text by the rule of identifiers and settings, length aside: UTF-8 without zero
-/// byte, CR, LF or `-->`. Refused: 6, place 0.
-#[inline]
-pub fn judge_identifier(text: &[u8]) -> Result<(), Refusal> {
-    // SAFETY: pointer and length of a slice.
-    judged(unsafe { ffi::captions_judge_identifier(text.as_ptr(), text.len()) })
-}
-
-/// Judges a text by the rule of payloads, length aside: UTF-8 without zero byte or `-->`, no
-/// line of it empty. Refused: 6, place 0.
-#[inline]
-pub fn judge_payload(text: &[u8]) -> Result<(), Refusal> {
-    // SAFETY: pointer and length of a slice.
-    judged(unsafe { ffi::captions_judge_payload(text.as_ptr(), text.len()) })
-}
-
-/// Judges a text as a `vttC` body: UTF-8 from `WEBVTT` on, not ending in CR or LF. Refused: 6,
-/// place 0.
-#[inline]
-pub fn judge_configuration(text: &[u8]) -> Result<(), Refusal> {
-    // SAFETY: pointer and length of a slice.
-    judged(unsafe { ffi::captions_judge_configuration(text.as_ptr(), text.len()) })
-}
-
-/// Judges a text as a `vlab` body: UTF-8 not ending in CR or LF. Refused: 6, place 0.
-#[inline]
-pub fn judge_label(text: &[u8]) -> Result<(), Refusal> {
-    // SAFETY: pointer and length of a slice.
-    judged(unsafe { ffi::captions_judge_label(text.as_ptr(), text.len()) })
-}
-
-/// The characters of a `tx3g` text, UTF-8 or UTF-16 after FE FF. Refused: 6, place 0.
-#[inline]
-pub fn count_characters(text: &[u8]) -> Result<usize, Refusal> {
-    // SAFETY: pointer and length of a slice.
-    let count = unsafe { ffi::captions_count_characters(text.as_ptr(), text.len()) };
-    judged(count.refusal)?;
-    Ok(count.characters)
-}
-
 /// A box: its type and where it stands.
-#[derive(Clone, Copy, Debug, PartialEq, Eq)]
+#[derive(Clone, Copy, Debug, PartialEq, Eq, Hash)]
 pub struct BoxAt {
+    /// The four bytes of its type.
     pub kind: [u8; 4],
     /// Its first byte.
     pub place: usize,
@@ -87,6 +114,12 @@ pub struct BoxAt {
 
 /// The box at `at` in a container that ends with the bytes; none at the end or past it.
 /// Refused: 1, 2.
+///
+/// ```
+/// let found = captions::step(b"\0\0\0\x08vtte", 0)?.expect("a box");
+/// assert_eq!((&found.kind, found.next), (b"vtte", 8));
+/// # Ok::<(), captions::Refusal>(())
+/// ```
 pub fn step(bytes: &[u8], at: usize) -> Result<Option<BoxAt>, Refusal> {
     // SAFETY: pointer and length of a slice.
     let step = unsafe { ffi::captions_step(bytes.as_ptr(), bytes.len(), at) };
@@ -97,196 +130,4 @@ pub fn step(bytes: &[u8], at: usize) -> Result<Option<BoxAt>, Refusal> {
         body: step.body,
         next: step.next,
     }))
-}
-
-/// Judges a WebVTT sample. Refused: 1 to 6, 8, 9; the place is a byte of the sample.
-pub fn judge_sample(sample: &[u8]) -> Result<(), Refusal> {
-    // SAFETY: pointer and length of a slice.
-    let answer = unsafe { ffi::captions_judge_sample(sample.as_ptr(), sample.len()) };
-    judged(answer)
-}
-
-/// A cue of a sample. No identifier and an empty one are alike, as with settings.
-#[derive(Clone, Copy, Debug, PartialEq, Eq)]
-pub struct Cue<'a> {
-    pub id: Option<u32>,
-    pub identifier: &'a [u8],
-    pub settings: &'a [u8],
-    pub payload: &'a [u8],
-}
-
-/// The cues of a sample from left to right. Refused: as [`judge_sample`].
-pub fn cues(sample: &[u8]) -> Result<Cues<'_>, Refusal> {
-    judge_sample(sample)?;
-    Ok(Cues { sample, from: 0 })
-}
-
-/// See [`cues`].
-#[derive(Clone, Debug)]
-pub struct Cues<'a> {
-    sample: &'a [u8],
-    from: usize,
-}
-
-impl<'a> Iterator for Cues<'a> {
-    type Item = Cue<'a>;
-
-    fn next(&mut self) -> Option<Cue<'a>> {
-        let sample = self.sample;
-        // SAFETY: pointer and length of a slice.
-        let cue = unsafe { ffi::captions_next_cue(sample.as_ptr(), sample.len(), self.from) };
-        self.from = if cue.found { cue.next } else { sample.len() };
-        cue.found.then(|| Cue {
-            id: cue.named.then_some(cue.id),
-            identifier: &sample[cue.identifierfrom..cue.identifierend],
-            settings: &sample[cue.settingsfrom..cue.settingsend],
-            payload: &sample[cue.payloadfrom..cue.payloadend],
-        })
-    }
-}
-
-/// Judges a `wvtt` sample entry. Refused: 1 to 4, 6; the place is a byte of the entry.
-pub fn judge_wvtt_entry(entry: &[u8]) -> Result<(), Refusal> {
-    // SAFETY: pointer and length of a slice.
-    let answer = unsafe { ffi::captions_judge_wvtt_entry(entry.as_ptr(), entry.len()) };
-    judged(answer)
-}
-
-/// Judges a cue list of 24-byte records and their pool on the timeline of `t` ms.
-/// Refused: 1, 6, 8 to 12; the place is the record's index, 0 for the whole.
-pub fn judge_list(scale: u32, t: u32, records: &[u8], pool: &[u8]) -> Result<(), Refusal> {
-    // SAFETY: pointers and lengths of slices.
-    let answer = unsafe {
-        ffi::captions_judge_list(
-            scale,
-            t,
-            records.as_ptr(),
-            records.len(),
-            pool.as_ptr(),
-            pool.len(),
-        )
-    };
-    judged(answer)
-}
-
-/// Judges a track: a table of 8-byte records and its samples. Refused: 1 to 6, 8 to 10; the
-/// place is the sample's index, 0 for the whole, the sample count for bytes left over.
-pub fn judge_track(table: &[u8], samples: &[u8]) -> Result<(), Refusal> {
-    // SAFETY: pointers and lengths of slices.
-    let answer = unsafe {
-        ffi::captions_judge_track(table.as_ptr(), table.len(), samples.as_ptr(), samples.len())
-    };
-    judged(answer)
-}
-
-/// What packing wrote.
-#[derive(Clone, Copy, Debug, PartialEq, Eq)]
-pub struct Packed {
-    /// The number of samples.
-    pub samples: usize,
-    pub table_bytes: usize,
-    pub sample_bytes: usize,
-}
-
-/// Packs a cue list into a sample table and samples. Refused: as [`judge_list`], then 15,
-/// place 0 for the table and 1 for the samples.
-pub fn pack(
-    scale: u32,
-    t: u32,
-    records: &[u8],
-    pool: &[u8],
-    table: &mut [u8],
-    samples: &mut [u8],
-) -> Result<Packed, Refusal> {
-    // SAFETY: pointers and lengths of slices; mutable ones overlap nothing.
-    let packed = unsafe {
-        ffi::captions_pack(
-            scale,
-            t,
-            records.as_ptr(),
-            records.len(),
-            pool.as_ptr(),
-            pool.len(),
-            table.as_mut_ptr(),
-            table.len(),
-            samples.as_mut_ptr(),
-            samples.len(),
-        )
-    };
-    judged(packed.refusal)?;
-    Ok(Packed {
-        samples: packed.samples,
-        table_bytes: packed.tablebytes,
-        sample_bytes: packed.samplebytes,
-    })
-}
-
-/// What unpacking wrote, and the timeline.
-#[derive(Clone, Copy, Debug, PartialEq, Eq)]
-pub struct Unpacked {
-    pub record_bytes: usize,
-    pub pool_bytes: usize,
-    /// T in milliseconds.
-    pub t: u32,
-}
-
-/// Unpacks a track into cue records and their pool. Refused: 10 for the scale, as
-/// [`judge_track`], 9, 11 to 14, 17 with the sample's index, 10 with the record's, and
-/// last 15, place 0 for the records and 1 for the pool.
-pub fn unpack(
-    scale: u32,
-    table: &[u8],
-    samples: &[u8],
-    records: &mut [u8],
-    pool: &mut [u8],
-) -> Result<Unpacked, Refusal> {
-    // SAFETY: pointers and lengths of slices; mutable ones overlap nothing.
-    let unpacked = unsafe {
-        ffi::captions_unpack(
-            scale,
-            table.as_ptr(),
-            table.len(),
-            samples.as_ptr(),
-            samples.len(),
-            records.as_mut_ptr(),
-            records.len(),
-            pool.as_mut_ptr(),
-            pool.len(),
-        )
-    };
-    judged(unpacked.refusal)?;
-    Ok(Unpacked {
-        record_bytes: unpacked.recordbytes,
-        pool_bytes: unpacked.poolbytes,
-        t: unpacked.t,
-    })
-}
-
-/// Checks that a track shows the list's cues at every tick of the timeline. Refused: as
-/// [`judge_list`], as [`judge_track`], then 16 with the first sample that is wrong, or the
-/// sample count where the track ends early.
-pub fn check(
-    scale: u32,
-    t: u32,
-    records: &[u8],
-    pool: &[u8],
-    table: &[u8],
-    samples: &[u8],
-) -> Result<(), Refusal> {
-    // SAFETY: pointers and lengths of slices.
-    let answer = unsafe {
-        ffi::captions_check(
-            scale,
-            t,
-            records.as_ptr(),
-            records.len(),
-            pool.as_ptr(),
-            pool.len(),
-            table.as_ptr(),
-            table.len(),
-            samples.as_ptr(),
-            samples.len(),
-        )
-    };
-    judged(answer)
 }

@@ -1,11 +1,18 @@
 //! The proved library as a harness [`Library`]. Each call is lent copies of its inputs, which
 //! must come back as they were.
 
+mod convert;
+mod raw;
+
 use std::hint::black_box;
 
-use captions_harness::{BoxAt, Cue, Library, Offered, Refusal, Span};
-use captions_harness::{Modifier, Packed, Unpacked};
-use captions_harness::{TextBoxAt, Tx3gRefusal, Who};
+use captions::{tx3g, wvtt};
+use captions_harness::{BoxAt, Cue, Entry, Fault, Fields, Font, Library, Modifier, Next};
+use captions_harness::{
+    Offered, Packed, Refusal, Run, RunAt, RunInput, Span, TextBoxAt, Tx3gSample, Unpacked,
+};
+
+use convert::{fault, refusal};
 
 /// The proved library.
 pub struct Proved;
@@ -17,37 +24,6 @@ fn lend<const N: usize, T>(inputs: [&[u8]; N], ask: impl for<'a> FnOnce([&'a [u8
     black_box(&mut copies);
     assert!(copies == inputs, "an input was written to");
     answer
-}
-
-fn refusal(refusal: captions::Refusal) -> Refusal {
-    Refusal {
-        number: refusal.reason.number(),
-        place: refusal.place,
-        offset: refusal.offset,
-    }
-}
-
-fn who(who: captions::tx3g::Who) -> Who {
-    match who {
-        captions::tx3g::Who::Entry => Who::Entry,
-        captions::tx3g::Who::Sample => Who::Sample,
-    }
-}
-
-fn tx3g_refusal(refusal: captions::tx3g::Tx3gRefusal) -> Tx3gRefusal {
-    Tx3gRefusal {
-        who: who(refusal.who),
-        number: refusal.reason.number(),
-        place: refusal.place,
-        offset: refusal.offset,
-    }
-}
-
-/// Where a part stands in the bytes it was cut from.
-fn span(whole: &[u8], part: &[u8]) -> Span {
-    let start = part.as_ptr() as usize - whole.as_ptr() as usize;
-    let end = start + part.len();
-    Span { start, end }
 }
 
 impl Library for Proved {
@@ -65,27 +41,27 @@ impl Library for Proved {
     }
 
     fn judge_identifier(&self, text: &[u8]) -> Offered<Result<(), Refusal>> {
-        let judged = lend([text], |[text]| captions::judge_identifier(text));
+        let judged = lend([text], |[text]| wvtt::judge_identifier(text));
         Some(judged.map_err(refusal))
     }
 
     fn judge_payload(&self, text: &[u8]) -> Offered<Result<(), Refusal>> {
-        let judged = lend([text], |[text]| captions::judge_payload(text));
+        let judged = lend([text], |[text]| wvtt::judge_payload(text));
         Some(judged.map_err(refusal))
     }
 
     fn judge_configuration(&self, text: &[u8]) -> Offered<Result<(), Refusal>> {
-        let judged = lend([text], |[text]| captions::judge_configuration(text));
+        let judged = lend([text], |[text]| wvtt::judge_configuration(text));
         Some(judged.map_err(refusal))
     }
 
     fn judge_label(&self, text: &[u8]) -> Offered<Result<(), Refusal>> {
-        let judged = lend([text], |[text]| captions::judge_label(text));
+        let judged = lend([text], |[text]| wvtt::judge_label(text));
         Some(judged.map_err(refusal))
     }
 
     fn characters(&self, text: &[u8]) -> Offered<Result<usize, Refusal>> {
-        let counted = lend([text], |[text]| captions::count_characters(text));
+        let counted = lend([text], |[text]| tx3g::count_characters(text));
         Some(counted.map_err(refusal))
     }
 
@@ -110,26 +86,69 @@ impl Library for Proved {
     }
 
     fn judge_sample(&self, sample: &[u8]) -> Offered<Result<(), Refusal>> {
-        let judged = lend([sample], |[sample]| captions::judge_sample(sample));
+        let judged = lend([sample], |[sample]| wvtt::judge_sample(sample));
         Some(judged.map_err(refusal))
     }
 
     fn cues(&self, sample: &[u8]) -> Offered<Result<Vec<Cue>, Refusal>> {
         Some(lend([sample], |[sample]| {
-            let cue = |cue: captions::Cue| Cue {
-                id: cue.id,
-                identifier: span(sample, cue.identifier),
-                settings: span(sample, cue.settings),
-                payload: span(sample, cue.payload),
-            };
-            let cues = captions::cues(sample).map_err(refusal)?;
-            Ok(cues.map(cue).collect())
+            let read = wvtt::Sample::read(sample).map_err(refusal)?;
+            Ok(read.cues().map(|cue| convert::cue(sample, cue)).collect())
         }))
     }
 
-    fn judge_wvtt_entry(&self, entry: &[u8]) -> Offered<Result<(), Refusal>> {
-        let judged = lend([entry], |[entry]| captions::judge_wvtt_entry(entry));
-        Some(judged.map_err(refusal))
+    fn next_cue(&self, sample: &[u8], from: usize) -> Offered<Result<Next<Cue>, Refusal>> {
+        let found = lend([sample], |[sample]| wvtt::next_cue(sample, from));
+        let found = found.map(|cue| cue.map(convert::cue_at));
+        Some(found.map_err(refusal))
+    }
+
+    fn read_wvtt_entry(&self, entry: &[u8]) -> Offered<Result<Entry, Refusal>> {
+        Some(lend([entry], |[entry]| {
+            let read = wvtt::Entry::read(entry).map_err(refusal)?;
+            Ok(convert::wvtt_entry(entry, read))
+        }))
+    }
+
+    /// The safe function where the texts are strings.
+    fn wvtt_entry_room(
+        &self,
+        configuration: &[u8],
+        label: Option<&[u8]>,
+    ) -> Offered<Result<usize, Refusal>> {
+        Some(lend(
+            [configuration, label.unwrap_or_default()],
+            |[configuration, text]| {
+                let label = label.map(|_| text);
+                match raw::strings(configuration, label) {
+                    Some((configuration, label)) => {
+                        wvtt::entry_room(configuration, label).map_err(refusal)
+                    }
+                    None => raw::entry_room(configuration, label),
+                }
+            },
+        ))
+    }
+
+    fn write_wvtt_entry(
+        &self,
+        configuration: &[u8],
+        label: Option<&[u8]>,
+        index: u16,
+        entry: &mut [u8],
+    ) -> Offered<Result<usize, Refusal>> {
+        Some(lend(
+            [configuration, label.unwrap_or_default()],
+            |[configuration, text]| {
+                let label = label.map(|_| text);
+                match raw::strings(configuration, label) {
+                    Some((configuration, label)) => {
+                        wvtt::write_entry(configuration, label, index, entry).map_err(refusal)
+                    }
+                    None => raw::write_entry(configuration, label, index, entry),
+                }
+            },
+        ))
     }
 
     fn judge_list(
@@ -147,9 +166,22 @@ impl Library for Proved {
 
     fn judge_track(&self, table: &[u8], samples: &[u8]) -> Offered<Result<(), Refusal>> {
         let judged = lend([table, samples], |[table, samples]| {
-            captions::judge_track(table, samples)
+            wvtt::judge_track(table, samples)
         });
         Some(judged.map_err(refusal))
+    }
+
+    fn pack_room(
+        &self,
+        scale: u32,
+        t: u32,
+        records: &[u8],
+        pool: &[u8],
+    ) -> Offered<Result<Packed, Refusal>> {
+        let room = lend([records, pool], |[records, pool]| {
+            wvtt::pack_room(scale, t, records, pool)
+        });
+        Some(room.map(packed).map_err(refusal))
     }
 
     fn pack(
@@ -161,15 +193,22 @@ impl Library for Proved {
         table: &mut [u8],
         samples: &mut [u8],
     ) -> Offered<Result<Packed, Refusal>> {
-        let packed = lend([records, pool], |[records, pool]| {
-            captions::pack(scale, t, records, pool, table, samples)
+        let answer = lend([records, pool], |[records, pool]| {
+            wvtt::pack(scale, t, records, pool, table, samples)
         });
-        let packed = packed.map(|packed| Packed {
-            samples: packed.samples as u32,
-            table_bytes: packed.table_bytes,
-            sample_bytes: packed.sample_bytes,
+        Some(answer.map(packed).map_err(refusal))
+    }
+
+    fn unpack_room(
+        &self,
+        scale: u32,
+        table: &[u8],
+        samples: &[u8],
+    ) -> Offered<Result<Unpacked, Refusal>> {
+        let room = lend([table, samples], |[table, samples]| {
+            wvtt::unpack_room(scale, table, samples)
         });
-        Some(packed.map_err(refusal))
+        Some(room.map(unpacked).map_err(refusal))
     }
 
     fn unpack(
@@ -180,15 +219,10 @@ impl Library for Proved {
         records: &mut [u8],
         pool: &mut [u8],
     ) -> Offered<Result<Unpacked, Refusal>> {
-        let unpacked = lend([table, samples], |[table, samples]| {
-            captions::unpack(scale, table, samples, records, pool)
+        let answer = lend([table, samples], |[table, samples]| {
+            wvtt::unpack(scale, table, samples, records, pool)
         });
-        let unpacked = unpacked.map(|unpacked| Unpacked {
-            record_bytes: unpacked.record_bytes,
-            pool_bytes: unpacked.pool_bytes,
-            t: unpacked.t,
-        });
-        Some(unpacked.map_err(refusal))
+        Some(answer.map(unpacked).map_err(refusal))
     }
 
     fn check(
@@ -199,116 +233,123 @@ impl Library for Proved {
         pool: &[u8],
         table: &[u8],
         samples: &[u8],
-    ) -> Offered<Result<(), Refusal>> {
+    ) -> Offered<Result<(), Fault>> {
         let checked = lend(
             [records, pool, table, samples],
-            |[records, pool, table, samples]| {
-                captions::check(scale, t, records, pool, table, samples)
-            },
+            |[records, pool, table, samples]| wvtt::check(scale, t, records, pool, table, samples),
         );
-        Some(checked.map_err(refusal))
+        Some(checked.map_err(fault))
     }
 
-    fn judge_tx3g_entry(&self, entry: &[u8]) -> Offered<Result<(), Refusal>> {
-        let judged = lend([entry], |[entry]| captions::tx3g::judge_entry(entry));
-        Some(judged.map_err(refusal))
-    }
-
-    fn judge_tx3g_sample(
-        &self,
-        entry: &[u8],
-        sample: &[u8],
-    ) -> Offered<Result<usize, Tx3gRefusal>> {
-        let judged = lend([entry, sample], |[entry, sample]| {
-            captions::tx3g::judge_sample(entry, sample)
+    fn read_tx3g_entry(&self, entry: &[u8]) -> Offered<Result<Fields, Refusal>> {
+        let read = lend([entry], |[entry]| {
+            tx3g::Entry::read(entry).map(|entry| convert::fields(&entry))
         });
-        Some(judged.map_err(tx3g_refusal))
+        Some(read.map_err(refusal))
     }
 
-    fn style(
-        &self,
-        entry: &[u8],
-        sample: &[u8],
-        k: usize,
-    ) -> Offered<Result<[u8; 12], Tx3gRefusal>> {
+    fn fonts(&self, entry: &[u8]) -> Offered<Result<Vec<Font>, Refusal>> {
+        Some(lend([entry], |[bytes]| {
+            let entry = tx3g::Entry::read(bytes).map_err(refusal)?;
+            let fonts = entry.fonts().map(|font| convert::font(bytes, font));
+            Ok(fonts.collect())
+        }))
+    }
+
+    fn font_at(&self, entry: &[u8], at: usize) -> Offered<Option<Font>> {
+        let font = lend([entry], |[entry]| tx3g::font_at(entry, at));
+        Some(font.map(convert::font_at))
+    }
+
+    /// As the static library reads it; the safe sample must agree.
+    fn read_tx3g_sample(&self, entry: &[u8], sample: &[u8]) -> Offered<Result<Tx3gSample, Fault>> {
+        Some(lend([entry, sample], |[entry, sample]| {
+            let read = tx3g::Sample::read(entry, sample).map_err(fault)?;
+            let found = convert::tx3g_sample(raw::read_sample(entry, sample));
+            assert_eq!(convert::text(&read), (found.utf16, found.text));
+            assert_eq!(read.text().chars().count(), found.characters);
+            assert_eq!(read.characters(), found.characters);
+            Ok(found)
+        }))
+    }
+
+    fn runs(&self, entry: &[u8], sample: &[u8]) -> Offered<Result<Vec<Run>, Fault>> {
+        Some(lend([entry, sample], |[entry, sample]| {
+            let read = tx3g::Sample::read(entry, sample).map_err(fault)?;
+            Ok(read.runs().map(convert::run).collect())
+        }))
+    }
+
+    fn next_run(&self, sample: &[u8], input: RunInput) -> Offered<Option<RunAt>> {
+        let RunInput {
+            styles,
+            styles_from,
+            k,
+            characters,
+        } = input;
+        let run = lend([sample], |[sample]| {
+            tx3g::next_run(sample, styles, styles_from, k, characters)
+        });
+        Some(run.map(convert::run_at))
+    }
+
+    fn style(&self, entry: &[u8], sample: &[u8], k: usize) -> Offered<Result<[u8; 12], Fault>> {
         let style = lend([entry, sample], |[entry, sample]| {
-            captions::tx3g::style(entry, sample, k)
+            tx3g::style(entry, sample, k)
         });
-        Some(style.map(style_bytes).map_err(tx3g_refusal))
+        Some(style.map(convert::style).map_err(fault))
     }
 
-    fn modifiers(
+    /// As the static library finds them; what the safe sample decodes must be their bytes.
+    fn modifiers(&self, entry: &[u8], sample: &[u8]) -> Offered<Result<Vec<Modifier>, Fault>> {
+        Some(lend([entry, sample], |[entry, sample]| {
+            let read = tx3g::Sample::read(entry, sample).map_err(fault)?;
+            let found = raw::modifiers(sample, raw::read_sample(entry, sample).modifiers);
+            let bodies = found.iter().map(|m| raw::body(sample, m));
+            assert!(read.modifiers().map(convert::body).eq(bodies));
+            Ok(found.iter().map(convert::modifier).collect())
+        }))
+    }
+
+    /// As the static library finds it; what the safe function decodes must be its bytes.
+    fn next_modifier(
         &self,
-        entry: &[u8],
         sample: &[u8],
-    ) -> Offered<Result<Vec<Modifier>, Tx3gRefusal>> {
-        let found = lend([entry, sample], |[entry, sample]| {
-            captions::tx3g::modifiers(entry, sample).map(|m| m.map(modifier).collect())
-        });
-        Some(found.map_err(tx3g_refusal))
+        from: usize,
+    ) -> Offered<Result<Next<Modifier>, Refusal>> {
+        Some(lend([sample], |[sample]| {
+            let found = tx3g::next_modifier(sample, from).map_err(refusal)?;
+            Ok(found.map(|(decoded, next)| {
+                let modifier = raw::next_modifier(sample, from);
+                assert_eq!(next, modifier.next);
+                if modifier.kind != u32::from_be_bytes(*b"twrp") {
+                    assert_eq!(convert::body(decoded), raw::body(sample, &modifier));
+                }
+                (convert::modifier(&modifier), next)
+            }))
+        }))
     }
 
-    fn text_box(&self, entry: &[u8], sample: &[u8]) -> Offered<Result<TextBoxAt, Tx3gRefusal>> {
-        let found = lend([entry, sample], |[entry, sample]| {
-            captions::tx3g::text_box(entry, sample).map(|found| TextBoxAt {
-                who: who(found.who),
-                offset: found.offset,
-                bytes: found.bytes.try_into().expect("eight bytes"),
-            })
-        });
-        Some(found.map_err(tx3g_refusal))
+    fn text_box(&self, entry: &[u8], sample: &[u8]) -> Offered<Result<TextBoxAt, Fault>> {
+        Some(lend([entry, sample], |[entry, sample]| {
+            let found = tx3g::text_box(entry, sample).map_err(fault)?;
+            Ok(convert::text_box(entry, sample, found))
+        }))
     }
 }
 
-/// A style as its record.
-fn style_bytes(style: captions::tx3g::Style) -> [u8; 12] {
-    let captions::tx3g::Style {
-        start,
-        end,
-        font,
-        face,
-        size,
-        colour,
-    } = style;
-    let mut bytes = [0; 12];
-    bytes[0..2].copy_from_slice(&start.to_be_bytes());
-    bytes[2..4].copy_from_slice(&end.to_be_bytes());
-    bytes[4..6].copy_from_slice(&font.to_be_bytes());
-    bytes[6..8].copy_from_slice(&[face, size]);
-    bytes[8..].copy_from_slice(&colour);
-    bytes
+fn packed(packed: wvtt::Packed) -> Packed {
+    Packed {
+        samples: packed.samples as u32,
+        table_bytes: packed.table_bytes,
+        sample_bytes: packed.sample_bytes,
+    }
 }
 
-fn modifier(m: captions::tx3g::Modifier) -> Modifier {
-    use captions::tx3g::Modifier as Found;
-    let span = |r: std::ops::Range<usize>| Span {
-        start: r.start,
-        end: r.end,
-    };
-    match m {
-        Found::Styles(styles) => Modifier::Styl {
-            styles: span(styles),
-        },
-        Found::Highlight { start, end } => Modifier::Hlit { start, end },
-        Found::Blink { start, end } => Modifier::Blnk { start, end },
-        Found::Colour(rgba) => Modifier::Hclr { rgba },
-        Found::Karaoke { time, entries } => Modifier::Krok {
-            start_time: time,
-            entries: span(entries),
-        },
-        Found::Delay(delay) => Modifier::Dlay { delay },
-        Found::Link {
-            start,
-            end,
-            url,
-            alternative,
-        } => Modifier::Href {
-            start,
-            end,
-            url: span(url),
-            alternative: span(alternative),
-        },
-        Found::TextBox(sides) => Modifier::Tbox { sides: span(sides) },
-        Found::Wrap(wrap) => Modifier::Twrp { wrap },
+fn unpacked(unpacked: wvtt::Unpacked) -> Unpacked {
+    Unpacked {
+        record_bytes: unpacked.record_bytes,
+        pool_bytes: unpacked.pool_bytes,
+        t: unpacked.t,
     }
 }

@@ -2,7 +2,8 @@
 
 use std::path::Path;
 
-use captions::ffi::captions_next_cue;
+use captions::wvtt::next_cue;
+use captions::{judge_utf8, step, tx3g, wvtt};
 use captions_compare::Proved;
 use captions_harness::random::Random;
 use captions_harness::{differential, run_vectors, Model};
@@ -48,10 +49,10 @@ fn any_place_is_answered() {
         let sample = captions_harness::generate::wvtt_sample(&mut random);
         let end = sample.len();
         for at in [end, end + 1, usize::MAX - 8, usize::MAX] {
-            assert_eq!(captions::step(&sample, at), Ok(None));
+            assert_eq!(step(&sample, at), Ok(None));
         }
         let at = random.below(end + 2);
-        if let Ok(Some(found)) = captions::step(&sample, at) {
+        if let Ok(Some(found)) = step(&sample, at) {
             assert!(at + 8 == found.body && found.body <= found.next && found.next <= end);
         }
         walk(&sample);
@@ -63,37 +64,17 @@ fn any_place_is_answered() {
 fn walk(sample: &[u8]) {
     let mut from = 0;
     loop {
-        // SAFETY: pointer and length of a slice.
-        let cue = unsafe { captions_next_cue(sample.as_ptr(), sample.len(), from) };
-        if !cue.found {
-            assert!(cue.refusal.number == 0 || captions::cues(sample).is_err());
-            return;
+        let cue = match next_cue(sample, from) {
+            Ok(Some(cue)) => cue,
+            Ok(None) => return,
+            Err(_) => return assert!(wvtt::judge_sample(sample).is_err()),
+        };
+        assert!(from < cue.next && cue.next <= sample.len());
+        for text in [cue.identifier, cue.settings, cue.payload] {
+            assert!(text.start <= text.end && text.end <= cue.next);
         }
-        assert!(cue.refusal.number == 0 && from < cue.next && cue.next <= sample.len());
-        assert!(cue.identifierfrom <= cue.identifierend && cue.identifierend <= cue.next);
-        assert!(cue.payloadfrom <= cue.payloadend && cue.payloadend <= cue.next);
         from = cue.next;
     }
-}
-
-#[test]
-fn no_bytes_are_answered() {
-    assert_eq!(captions::judge_utf8(&[]), Ok(()));
-    assert_eq!(captions::judge_identifier(&[]), Ok(()));
-    assert_eq!(captions::judge_payload(&[]), Ok(()));
-    assert_eq!(captions::judge_label(&[]), Ok(()));
-    assert_eq!(answer(captions::judge_configuration(&[])), (6, 0, 0));
-    assert_eq!(captions::count_characters(&[]), Ok(0));
-    assert_eq!(captions::step(&[], 0), Ok(None));
-    assert!(captions::cues(&[]).is_err());
-    assert_eq!(captions::judge_track(&[], &[]), Ok(()));
-    assert_eq!(captions::judge_list(1000, 1, &[], &[]), Ok(()));
-    let refused = captions::judge_sample(&[]).expect_err("no cue");
-    assert_eq!(answer(Err(refused)), (4, 0, 0));
-    assert_eq!(
-        refused.to_string(),
-        "refused 4 0: a box or every cue missing"
-    );
 }
 
 #[test]
@@ -121,54 +102,55 @@ fn a_text_is_bad_at_every_offset() {
     for at in 0..text.len() {
         text[at] = 0xFF;
         let bad = (6, 0, at);
-        assert_eq!(answer(captions::judge_utf8(&text)), bad);
-        assert_eq!(answer(captions::judge_identifier(&text)), bad);
-        assert_eq!(answer(captions::judge_payload(&text)), bad);
-        assert_eq!(answer(captions::judge_label(&text)), bad);
-        assert_eq!(answer(captions::count_characters(&text).map(drop)), bad);
+        assert_eq!(answer(judge_utf8(&text)), bad);
+        assert_eq!(answer(wvtt::judge_identifier(&text)), bad);
+        assert_eq!(answer(wvtt::judge_payload(&text)), bad);
+        assert_eq!(answer(wvtt::judge_label(&text)), bad);
+        assert_eq!(answer(tx3g::count_characters(&text).map(drop)), bad);
         text[at] = b'a';
     }
     text.truncate(4095);
     text.push(b'\n');
-    assert_eq!(answer(captions::judge_utf8(&text)), (0, 0, 0));
-    assert_eq!(answer(captions::judge_identifier(&text)), (6, 0, 4095));
-    assert_eq!(answer(captions::judge_payload(&text)), (6, 0, 4096));
-    assert_eq!(answer(captions::judge_label(&text)), (6, 0, 4096));
+    assert_eq!(answer(judge_utf8(&text)), (0, 0, 0));
+    assert_eq!(answer(wvtt::judge_identifier(&text)), (6, 0, 4095));
+    assert_eq!(answer(wvtt::judge_payload(&text)), (6, 0, 4096));
+    assert_eq!(answer(wvtt::judge_label(&text)), (6, 0, 4096));
 }
 
 #[test]
 fn a_refusal_shows_where_the_text_is_bad() {
-    let refused = captions::judge_payload(b"two\n\nlines").expect_err("an empty line");
+    let refused = wvtt::judge_payload(b"two\n\nlines").expect_err("an empty line");
     assert_eq!(refused.to_string(), "refused 6 0, byte 4: bad text");
 }
 
-/// As many samples and records as are allowed, and one more; an unpacked track, and the check of it, at that size.
+/// As many samples as are allowed, and one more; an unpacked track, and the check of it, at that
+/// size.
 #[test]
-fn the_limits_are_exact() {
+fn the_limit_of_samples_is_exact() {
     let track = |count: usize| {
         let row = [0, 0, 0, 1, 0, 0, 0, 8];
         (row.repeat(count), b"\0\0\0\x08vtte".repeat(count))
     };
     for (count, number) in [(65_536, 0), (65_537, 9)] {
         let (table, samples) = track(count);
-        assert_eq!(
-            answer(captions::judge_track(&table, &samples)),
-            (number, 0, 0)
-        );
-        let unpacked = captions::unpack(1000, &table, &samples, &mut [], &mut []);
+        assert_eq!(answer(wvtt::judge_track(&table, &samples)), (number, 0, 0));
+        let unpacked = wvtt::unpack(1000, &table, &samples, &mut [], &mut []);
         let unpacked = unpacked.map(|u| assert_eq!((u.record_bytes, u.t), (0, 65_536)));
         assert_eq!(answer(unpacked), (number, 0, 0));
-        let checked = captions::check(1000, 65_536, &[], &[], &table, &samples);
+        let checked = wvtt::check(1000, 65_536, &[], &[], &table, &samples);
+        let checked = checked.map_err(captions::Refusal::from);
         assert_eq!(answer(checked), (number, 0, 0));
     }
-    let record = |id: u32| {
-        let times = [
-            &id.to_be_bytes()[..],
-            &id.to_be_bytes(),
-            &(id + 1).to_be_bytes(),
-        ];
-        [times.concat(), vec![0; 12]].concat()
-    };
+}
+
+/// A record without texts.
+fn record(id: u32) -> Vec<u8> {
+    let times = [id, id, id + 1].map(u32::to_be_bytes);
+    [times.concat(), vec![0; 12]].concat()
+}
+
+#[test]
+fn the_limits_of_lists_are_exact() {
     for (count, number) in [(1024, 0), (1025, 9)] {
         let records: Vec<u8> = (0..count).flat_map(record).collect();
         let judged = captions::judge_list(1000, 2000, &records, &[]);

@@ -1,17 +1,21 @@
 //! Two libraries on the same random inputs.
 
+mod outputs;
+mod tx3g;
+mod wvtt;
+
 use std::collections::{BTreeMap, BTreeSet};
 use std::fmt::{self, Debug, Display};
 
 use captions_model::number::BAD_TEXT;
-use captions_model::tx3g::Modifier;
-use captions_model::wvtt::Cue;
-use captions_model::{Refusal, Span};
+use captions_model::Span;
 
 use crate::generate as make;
 use crate::library::Library;
 use crate::random::Random;
 use crate::rows::{hex, Refused};
+
+use outputs::Written;
 
 /// How often each operation was compared, and with which number as the answer.
 #[derive(Clone, Debug, Default)]
@@ -129,22 +133,24 @@ pub fn differential_round(
 type Compared = Result<(), Difference>;
 type Operation = fn(&mut Pair, &mut Random) -> Compared;
 
-const OPERATIONS: [Operation; 15] = [
+const OPERATIONS: [Operation; 17] = [
     compare_fields,
     compare_times,
     compare_texts,
     compare_characters,
     compare_step,
-    compare_sample,
-    compare_wvtt_entry,
-    compare_list,
-    compare_pack,
-    compare_track,
-    compare_unpack,
-    compare_check,
-    compare_tx3g_entry,
-    compare_tx3g_sample,
-    compare_program,
+    wvtt::compare_sample,
+    wvtt::compare_entry,
+    wvtt::compare_entry_writing,
+    wvtt::compare_list,
+    wvtt::compare_pack,
+    wvtt::compare_track,
+    wvtt::compare_unpack,
+    wvtt::compare_check,
+    wvtt::compare_program,
+    tx3g::compare_entry,
+    tx3g::compare_sample,
+    tx3g::compare_run,
 ];
 
 /// The two libraries and the round.
@@ -309,15 +315,6 @@ fn compare_step(pair: &mut Pair, random: &mut Random) -> Compared {
     pair.ask("box_step", input, |l| l.box_step(&bytes, at), counted)
 }
 
-fn compare_sample(pair: &mut Pair, random: &mut Random) -> Compared {
-    let sample = make::wvtt_sample(random);
-    pair.judge("judge_sample", &[&sample], |l| l.judge_sample(&sample))?;
-    pair.judge("cues", &[&sample], |l| {
-        let plain = |cues: Vec<Cue>| cues.into_iter().map(plain_cue).collect::<Vec<_>>();
-        Some(l.cues(&sample)?.map(plain))
-    })
-}
-
 /// An empty part, whose start is free, as one at 0.
 fn plain(part: Span) -> Span {
     if part.is_empty() {
@@ -325,238 +322,4 @@ fn plain(part: Span) -> Span {
     } else {
         part
     }
-}
-
-fn plain_cue(cue: Cue) -> Cue {
-    Cue {
-        id: cue.id,
-        identifier: plain(cue.identifier),
-        settings: plain(cue.settings),
-        payload: plain(cue.payload),
-    }
-}
-
-fn plain_modifier(modifier: Modifier) -> Modifier {
-    match modifier {
-        Modifier::Styl { styles } => Modifier::Styl {
-            styles: plain(styles),
-        },
-        Modifier::Krok {
-            start_time,
-            entries,
-        } => Modifier::Krok {
-            start_time,
-            entries: plain(entries),
-        },
-        Modifier::Href {
-            start,
-            end,
-            url,
-            alternative,
-        } => Modifier::Href {
-            start,
-            end,
-            url: plain(url),
-            alternative: plain(alternative),
-        },
-        other => other,
-    }
-}
-
-fn compare_wvtt_entry(pair: &mut Pair, random: &mut Random) -> Compared {
-    let entry = make::wvtt_entry(random);
-    pair.judge("judge_wvtt_entry", &[&entry], |l| {
-        l.judge_wvtt_entry(&entry)
-    })
-}
-
-fn compare_list(pair: &mut Pair, random: &mut Random) -> Compared {
-    let make::CueList {
-        scale,
-        t,
-        records,
-        pool,
-    } = make::list(random);
-    let input = || show(&[scale.into(), t.into()], &[&records, &pool]);
-    let ask = |l: &dyn Library| l.judge_list(scale, t, &records, &pool);
-    pair.ask("judge_list", input, ask, counted)
-}
-
-/// Two lent outputs with a pattern in them.
-#[derive(Clone, PartialEq)]
-struct Outputs([Vec<u8>; 2]);
-
-impl Outputs {
-    fn new(rooms: [usize; 2]) -> Self {
-        Outputs(rooms.map(|room| (0..room).map(pattern).collect()))
-    }
-
-    /// Whether each output is untouched from its length in `results` on.
-    fn kept_from(&self, results: [usize; 2]) -> bool {
-        let kept = |out: &[u8], from: usize| {
-            out.iter()
-                .enumerate()
-                .skip(from)
-                .all(|(at, &byte)| byte == pattern(at))
-        };
-        kept(&self.0[0], results[0]) && kept(&self.0[1], results[1])
-    }
-}
-
-impl Debug for Outputs {
-    fn fmt(&self, f: &mut fmt::Formatter) -> fmt::Result {
-        write!(f, "{} {}", hex(&self.0[0]), hex(&self.0[1]))
-    }
-}
-
-fn pattern(at: usize) -> u8 {
-    (at as u8).wrapping_mul(37) ^ (at >> 8) as u8 ^ 0x5A
-}
-
-/// An answer and both outputs after it.
-#[derive(Debug, PartialEq)]
-struct Written<T> {
-    answer: Result<T, Refusal>,
-    outputs: Outputs,
-    /// Whether the bytes past the result, all on refusal, are as they were.
-    kept: bool,
-}
-
-impl<T> Written<T> {
-    fn new(
-        answer: Result<T, Refusal>,
-        outputs: Outputs,
-        lengths: impl Fn(&T) -> [usize; 2],
-    ) -> Self {
-        let kept = outputs.kept_from(answer.as_ref().map_or([0, 0], lengths));
-        Written {
-            answer,
-            outputs,
-            kept,
-        }
-    }
-}
-
-fn compare_pack(pair: &mut Pair, random: &mut Random) -> Compared {
-    let list = make::list(random);
-    let need = make::packed(&list).unwrap_or_default();
-    let rooms = [need.table.len(), need.samples.len()].map(|n| make::room(random, n));
-    let make::CueList {
-        scale,
-        t,
-        records,
-        pool,
-    } = list;
-    let numbers = [scale, t, rooms[0] as u32, rooms[1] as u32].map(u64::from);
-    let input = || show(&numbers, &[&records, &pool]);
-    let ask = |l: &dyn Library| {
-        let mut out = Outputs::new(rooms);
-        let [table, samples] = &mut out.0;
-        let answer = l.pack(scale, t, &records, &pool, table, samples)?;
-        Some(Written::new(answer, out, |p| {
-            [p.table_bytes, p.sample_bytes]
-        }))
-    };
-    pair.write("pack", input, ask)
-}
-
-fn compare_track(pair: &mut Pair, random: &mut Random) -> Compared {
-    let (_, track) = make::unpack_input(random);
-    let make::Track { table, samples } = track;
-    pair.judge("judge_track", &[&table, &samples], |l| {
-        l.judge_track(&table, &samples)
-    })
-}
-
-fn compare_unpack(pair: &mut Pair, random: &mut Random) -> Compared {
-    let (scale, make::Track { table, samples }) = make::unpack_input(random);
-    let (mut records, mut pool) = (vec![0; 1 << 15], vec![0; samples.len()]);
-    let need = captions_model::unpack::unpack(scale, &table, &samples, &mut records, &mut pool);
-    let need = need.map_or([0, 0], |u| [u.record_bytes, u.pool_bytes]);
-    let rooms = need.map(|n| make::room(random, n));
-    let numbers = [u64::from(scale), rooms[0] as u64, rooms[1] as u64];
-    let input = || show(&numbers, &[&table, &samples]);
-    let ask = |l: &dyn Library| {
-        let mut out = Outputs::new(rooms);
-        let [records, pool] = &mut out.0;
-        let answer = l.unpack(scale, &table, &samples, records, pool)?;
-        Some(Written::new(answer, out, |u| {
-            [u.record_bytes, u.pool_bytes]
-        }))
-    };
-    pair.write("unpack", input, ask)
-}
-
-fn compare_check(pair: &mut Pair, random: &mut Random) -> Compared {
-    let (list, track) = make::check_input(random);
-    let make::CueList {
-        scale,
-        t,
-        records,
-        pool,
-    } = list;
-    let make::Track { table, samples } = track;
-    let input = || {
-        show(
-            &[scale.into(), t.into()],
-            &[&records, &pool, &table, &samples],
-        )
-    };
-    let ask = |l: &dyn Library| l.check(scale, t, &records, &pool, &table, &samples);
-    pair.ask("check", input, ask, counted)
-}
-
-fn compare_tx3g_entry(pair: &mut Pair, random: &mut Random) -> Compared {
-    let entry = make::tx3g_entry(random);
-    pair.judge("judge_tx3g_entry", &[&entry], |l| {
-        l.judge_tx3g_entry(&entry)
-    })
-}
-
-fn compare_tx3g_sample(pair: &mut Pair, random: &mut Random) -> Compared {
-    let (entry, sample) = make::tx3g_input(random);
-    let both: [&[u8]; 2] = [&entry, &sample];
-    pair.judge("judge_tx3g_sample", &both, |l| {
-        l.judge_tx3g_sample(&entry, &sample)
-    })?;
-    pair.judge("text_box", &both, |l| l.text_box(&entry, &sample))?;
-    let judged = captions_model::tx3g::judge_sample(&entry, &sample);
-    for k in characters_to_ask(random, judged.unwrap_or(0)) {
-        let input = || show(&[k as u64], &both);
-        pair.ask("style", input, |l| l.style(&entry, &sample, k), counted)?;
-    }
-    pair.judge("modifiers", &both, |l| {
-        let plain =
-            |found: Vec<Modifier>| found.into_iter().map(plain_modifier).collect::<Vec<_>>();
-        Some(l.modifiers(&entry, &sample)?.map(plain))
-    })
-}
-
-/// The first characters and those about the end.
-fn characters_to_ask(random: &mut Random, count: usize) -> [usize; 4] {
-    [0, random.below(count + 1), count.saturating_sub(1), count]
-}
-
-fn compare_program(pair: &mut Pair, random: &mut Random) -> Compared {
-    let make::ProgramInput {
-        input,
-        records,
-        pool,
-    } = make::program_input(random);
-    let (records, pool) = (records.as_deref(), pool.as_deref());
-    let shown = || {
-        let file = |f: Option<&[u8]>| f.map_or("-".to_string(), hex);
-        format!("{} {} {}", hex(&input), file(records), file(pool))
-    };
-    let ask = |l: &dyn Library| l.program(&input, records, pool);
-    pair.ask("program", shown, ask, |out| (refused_number(out), None))
-}
-
-/// The number in a line `refused 10 0`.
-fn refused_number(output: &[u8]) -> u32 {
-    let text = String::from_utf8_lossy(output);
-    let number = text
-        .strip_prefix("refused ")
-        .and_then(|rest| rest.split(' ').next());
-    number.and_then(|n| n.parse().ok()).unwrap_or(0)
 }

@@ -15,8 +15,8 @@ pub use damage::{damage_boxes, damage_bytes};
 pub use program::{program_input, ProgramInput};
 pub use text::{any_text, bad_text, identifier, payload, tx3g_text};
 pub use track::{check_input, packed, unpack_input, Track};
-pub use tx3g::{sample_for, tx3g_entry, tx3g_input};
-pub use wvtt::{configuration, wvtt_entry, wvtt_sample};
+pub use tx3g::{run_input, sample_for, tx3g_entry, tx3g_input};
+pub use wvtt::{configuration, entry_parts, wvtt_entry, wvtt_sample, EntryParts};
 
 use crate::random::Random;
 
@@ -29,4 +29,10 @@ pub fn room(random: &mut Random, need: usize) -> usize {
         5 => need + 1,
         _ => need + random.below(200),
     }
+}
+
+/// Places in so many bytes from which to walk on: their start, any, and past their end.
+pub fn places(random: &mut Random, len: usize) -> [usize; 3] {
+    let past = random.pick(&[len, len + 1, usize::MAX - 7, usize::MAX]);
+    [0, random.below(len + 1), past]
 }

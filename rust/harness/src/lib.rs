@@ -12,13 +12,14 @@ mod rows;
 mod vectors;
 
 pub use differential::{differential, differential_round, Counts, Difference};
-pub use library::{Library, Offered, TextBoxAt};
+pub use library::{Library, Next, Offered, RunInput, TextBoxAt, Tx3gSample};
 pub use model::Model;
 pub use vectors::{run_vectors, FileReport, Report};
 
 pub use captions_model::boxes::BoxAt;
 pub use captions_model::pack::Packed;
-pub use captions_model::tx3g::{Modifier, Tx3gRefusal, Who};
+pub use captions_model::runs::{Look, Run, RunAt};
+pub use captions_model::tx3g::{Fields, Font, Modifier};
 pub use captions_model::unpack::Unpacked;
-pub use captions_model::wvtt::Cue;
-pub use captions_model::{Refusal, Span};
+pub use captions_model::wvtt::{Cue, Entry};
+pub use captions_model::{Fault, Refusal, Span, Who};

@@ -2,20 +2,49 @@
 
 use captions_model::boxes::BoxAt;
 use captions_model::pack::Packed;
-use captions_model::tx3g::{Modifier, Tx3gRefusal, Who};
+use captions_model::runs::{Run, RunAt};
+use captions_model::tx3g::{Fields, Font, Modifier};
 use captions_model::unpack::Unpacked;
-use captions_model::wvtt::Cue;
-use captions_model::Refusal;
+use captions_model::wvtt::{Cue, Entry};
+use captions_model::{Fault, Refusal, Span, Who};
 
 /// An answer, or none where the implementation does not offer the operation.
 pub type Offered<T> = Option<T>;
 
-/// Where the text box in force stands, and its eight bytes.
+/// What is found, and where to look for the next; or none at the end.
+pub type Next<T> = Option<(T, usize)>;
+
+/// Where the text box in force stands, its eight bytes, and what they say.
 #[derive(Clone, Copy, Debug, PartialEq, Eq)]
 pub struct TextBoxAt {
     pub who: Who,
     pub offset: usize,
     pub bytes: [u8; 8],
+    /// Top, left, bottom, right.
+    pub sides: [i16; 4],
+}
+
+/// What a `tx3g` sample holds, and where.
+#[derive(Clone, Copy, Debug, PartialEq, Eq)]
+pub struct Tx3gSample {
+    pub characters: usize,
+    pub utf16: bool,
+    /// The text without the mark of UTF-16.
+    pub text: Span,
+    /// Where the modifier boxes begin.
+    pub modifiers: usize,
+    /// How many styles there are, and where the first stands; 0 and 0 without `styl`.
+    pub styles: usize,
+    pub styles_from: usize,
+}
+
+/// What [`Library::next_run`] is asked beside the sample.
+#[derive(Clone, Copy, Debug, PartialEq, Eq)]
+pub struct RunInput {
+    pub styles: usize,
+    pub styles_from: usize,
+    pub k: usize,
+    pub characters: usize,
 }
 
 /// An implementation of the captions library. Every operation may be left out.
@@ -87,8 +116,33 @@ pub trait Library {
         None
     }
 
-    /// Judges a `wvtt` sample entry.
-    fn judge_wvtt_entry(&self, entry: &[u8]) -> Offered<Result<(), Refusal>> {
+    /// The first cue of any bytes from a place on, and where to look for the next.
+    fn next_cue(&self, sample: &[u8], from: usize) -> Offered<Result<Next<Cue>, Refusal>> {
+        None
+    }
+
+    /// Judges a `wvtt` sample entry and reads it.
+    fn read_wvtt_entry(&self, entry: &[u8]) -> Offered<Result<Entry, Refusal>> {
+        None
+    }
+
+    /// The length of a `wvtt` sample entry with a configuration and, if it is given, a label.
+    fn wvtt_entry_room(
+        &self,
+        configuration: &[u8],
+        label: Option<&[u8]>,
+    ) -> Offered<Result<usize, Refusal>> {
+        None
+    }
+
+    /// Writes such an entry with a data reference index, and gives its length.
+    fn write_wvtt_entry(
+        &self,
+        configuration: &[u8],
+        label: Option<&[u8]>,
+        index: u16,
+        entry: &mut [u8],
+    ) -> Offered<Result<usize, Refusal>> {
         None
     }
 
@@ -100,6 +154,17 @@ pub trait Library {
         records: &[u8],
         pool: &[u8],
     ) -> Offered<Result<(), Refusal>> {
+        None
+    }
+
+    /// What packing answers given room for everything.
+    fn pack_room(
+        &self,
+        scale: u32,
+        t: u32,
+        records: &[u8],
+        pool: &[u8],
+    ) -> Offered<Result<Packed, Refusal>> {
         None
     }
 
@@ -118,6 +183,16 @@ pub trait Library {
 
     /// Judges a track.
     fn judge_track(&self, table: &[u8], samples: &[u8]) -> Offered<Result<(), Refusal>> {
+        None
+    }
+
+    /// What unpacking answers given room for everything.
+    fn unpack_room(
+        &self,
+        scale: u32,
+        table: &[u8],
+        samples: &[u8],
+    ) -> Offered<Result<Unpacked, Refusal>> {
         None
     }
 
@@ -142,46 +217,62 @@ pub trait Library {
         pool: &[u8],
         table: &[u8],
         samples: &[u8],
-    ) -> Offered<Result<(), Refusal>> {
+    ) -> Offered<Result<(), Fault>> {
         None
     }
 
-    /// Judges a `tx3g` sample entry.
-    fn judge_tx3g_entry(&self, entry: &[u8]) -> Offered<Result<(), Refusal>> {
+    /// Judges a `tx3g` sample entry and reads it.
+    fn read_tx3g_entry(&self, entry: &[u8]) -> Offered<Result<Fields, Refusal>> {
         None
     }
 
-    /// Judges a `tx3g` entry and sample; gives the sample's character count.
-    fn judge_tx3g_sample(
-        &self,
-        entry: &[u8],
-        sample: &[u8],
-    ) -> Offered<Result<usize, Tx3gRefusal>> {
+    /// The fonts of a `tx3g` sample entry in order.
+    fn fonts(&self, entry: &[u8]) -> Offered<Result<Vec<Font>, Refusal>> {
+        None
+    }
+
+    /// The font that stands at a byte of any bytes, or none.
+    fn font_at(&self, entry: &[u8], at: usize) -> Offered<Option<Font>> {
+        None
+    }
+
+    /// Judges a `tx3g` entry and sample, and reads the sample.
+    fn read_tx3g_sample(&self, entry: &[u8], sample: &[u8]) -> Offered<Result<Tx3gSample, Fault>> {
+        None
+    }
+
+    /// The runs of a sample of one style each, from the first character to the last.
+    fn runs(&self, entry: &[u8], sample: &[u8]) -> Offered<Result<Vec<Run>, Fault>> {
+        None
+    }
+
+    /// The run from a character on, of any bytes and any numbers; or none.
+    fn next_run(&self, sample: &[u8], input: RunInput) -> Offered<Option<RunAt>> {
         None
     }
 
     /// Judges a `tx3g` entry and sample; gives the modifiers of a good one from left to right,
     /// other boxes passed over. The start of an empty part is free.
-    fn modifiers(
+    fn modifiers(&self, entry: &[u8], sample: &[u8]) -> Offered<Result<Vec<Modifier>, Fault>> {
+        None
+    }
+
+    /// The first modifier of any bytes from a place on, and where to look for the next.
+    fn next_modifier(
         &self,
-        entry: &[u8],
         sample: &[u8],
-    ) -> Offered<Result<Vec<Modifier>, Tx3gRefusal>> {
+        from: usize,
+    ) -> Offered<Result<Next<Modifier>, Refusal>> {
         None
     }
 
     /// The twelve bytes of the style of character `k`.
-    fn style(
-        &self,
-        entry: &[u8],
-        sample: &[u8],
-        k: usize,
-    ) -> Offered<Result<[u8; 12], Tx3gRefusal>> {
+    fn style(&self, entry: &[u8], sample: &[u8], k: usize) -> Offered<Result<[u8; 12], Fault>> {
         None
     }
 
     /// The text box in force.
-    fn text_box(&self, entry: &[u8], sample: &[u8]) -> Offered<Result<TextBoxAt, Tx3gRefusal>> {
+    fn text_box(&self, entry: &[u8], sample: &[u8]) -> Offered<Result<TextBoxAt, Fault>> {
         None
     }
 

@@ -2,12 +2,13 @@
 
 use captions_model::boxes::{self, BoxAt};
 use captions_model::pack::{self, Packed};
-use captions_model::tx3g::{self, Modifier, Tx3gRefusal};
+use captions_model::runs::{self, Run, RunAt};
+use captions_model::tx3g::{self, Fields, Font, Modifier};
 use captions_model::unpack::{self, Unpacked};
-use captions_model::wvtt::{self, Cue};
-use captions_model::{check, list, program, text, time, track, Refusal};
+use captions_model::wvtt::{self, Cue, Entry};
+use captions_model::{check, list, program, text, time, track, Fault, Refusal};
 
-use crate::library::{Library, Offered, TextBoxAt};
+use crate::library::{Library, Next, Offered, RunInput, TextBoxAt, Tx3gSample};
 
 /// The plain model.
 pub struct Model;
@@ -19,6 +20,18 @@ fn bad_text(offset: usize) -> Refusal {
 
 fn judged(fault: Option<usize>) -> Result<(), Refusal> {
     fault.map_or(Ok(()), |offset| Err(bad_text(offset)))
+}
+
+fn tx3g_sample(sample: tx3g::Sample) -> Tx3gSample {
+    let (styles, styles_from) = sample.style_table();
+    Tx3gSample {
+        characters: sample.characters,
+        utf16: sample.utf16,
+        text: sample.text,
+        modifiers: sample.modifiers,
+        styles,
+        styles_from,
+    }
 }
 
 impl Library for Model {
@@ -74,8 +87,30 @@ impl Library for Model {
         Some(wvtt::judge_sample(sample).map(|()| wvtt::cues(sample).collect()))
     }
 
-    fn judge_wvtt_entry(&self, entry: &[u8]) -> Offered<Result<(), Refusal>> {
-        Some(wvtt::judge_entry(entry))
+    fn next_cue(&self, sample: &[u8], from: usize) -> Offered<Result<Next<Cue>, Refusal>> {
+        Some(wvtt::next_cue(sample, from))
+    }
+
+    fn read_wvtt_entry(&self, entry: &[u8]) -> Offered<Result<Entry, Refusal>> {
+        Some(wvtt::read_entry(entry))
+    }
+
+    fn wvtt_entry_room(
+        &self,
+        configuration: &[u8],
+        label: Option<&[u8]>,
+    ) -> Offered<Result<usize, Refusal>> {
+        Some(wvtt::entry_room(configuration, label))
+    }
+
+    fn write_wvtt_entry(
+        &self,
+        configuration: &[u8],
+        label: Option<&[u8]>,
+        index: u16,
+        entry: &mut [u8],
+    ) -> Offered<Result<usize, Refusal>> {
+        Some(wvtt::write_entry(configuration, label, index, entry))
     }
 
     fn judge_list(
@@ -86,6 +121,16 @@ impl Library for Model {
         pool: &[u8],
     ) -> Offered<Result<(), Refusal>> {
         Some(list::judge_list(scale, t, records, pool))
+    }
+
+    fn pack_room(
+        &self,
+        scale: u32,
+        t: u32,
+        records: &[u8],
+        pool: &[u8],
+    ) -> Offered<Result<Packed, Refusal>> {
+        Some(pack::room(scale, t, records, pool))
     }
 
     fn pack(
@@ -102,6 +147,15 @@ impl Library for Model {
 
     fn judge_track(&self, table: &[u8], samples: &[u8]) -> Offered<Result<(), Refusal>> {
         Some(track::judge_track(table, samples))
+    }
+
+    fn unpack_room(
+        &self,
+        scale: u32,
+        table: &[u8],
+        samples: &[u8],
+    ) -> Offered<Result<Unpacked, Refusal>> {
+        Some(unpack::room(scale, table, samples))
     }
 
     fn unpack(
@@ -123,40 +177,57 @@ impl Library for Model {
         pool: &[u8],
         table: &[u8],
         samples: &[u8],
-    ) -> Offered<Result<(), Refusal>> {
+    ) -> Offered<Result<(), Fault>> {
         Some(check::check(scale, t, records, pool, table, samples))
     }
 
-    fn judge_tx3g_entry(&self, entry: &[u8]) -> Offered<Result<(), Refusal>> {
-        Some(tx3g::judge_entry(entry))
+    fn read_tx3g_entry(&self, entry: &[u8]) -> Offered<Result<Fields, Refusal>> {
+        Some(tx3g::read_entry(entry).map(|entry| entry.fields()))
     }
 
-    fn judge_tx3g_sample(
-        &self,
-        entry: &[u8],
-        sample: &[u8],
-    ) -> Offered<Result<usize, Tx3gRefusal>> {
-        Some(tx3g::judge_sample(entry, sample))
+    fn fonts(&self, entry: &[u8]) -> Offered<Result<Vec<Font>, Refusal>> {
+        Some(tx3g::fonts(entry))
     }
 
-    fn modifiers(
-        &self,
-        entry: &[u8],
-        sample: &[u8],
-    ) -> Offered<Result<Vec<Modifier>, Tx3gRefusal>> {
-        Some(tx3g::judge_sample(entry, sample).map(|_| tx3g::modifiers(sample).collect()))
+    fn font_at(&self, entry: &[u8], at: usize) -> Offered<Option<Font>> {
+        Some(tx3g::font_at(entry, at))
     }
 
-    fn style(
+    fn read_tx3g_sample(&self, entry: &[u8], sample: &[u8]) -> Offered<Result<Tx3gSample, Fault>> {
+        Some(tx3g::read_sample(entry, sample).map(tx3g_sample))
+    }
+
+    fn runs(&self, entry: &[u8], sample: &[u8]) -> Offered<Result<Vec<Run>, Fault>> {
+        Some(runs::runs(entry, sample).map(Iterator::collect))
+    }
+
+    fn next_run(&self, sample: &[u8], input: RunInput) -> Offered<Option<RunAt>> {
+        let RunInput {
+            styles,
+            styles_from,
+            k,
+            characters,
+        } = input;
+        Some(runs::next_run(sample, styles, styles_from, k, characters))
+    }
+
+    fn modifiers(&self, entry: &[u8], sample: &[u8]) -> Offered<Result<Vec<Modifier>, Fault>> {
+        Some(tx3g::read_sample(entry, sample).map(|_| tx3g::modifiers(sample).collect()))
+    }
+
+    fn next_modifier(
         &self,
-        entry: &[u8],
         sample: &[u8],
-        k: usize,
-    ) -> Offered<Result<[u8; 12], Tx3gRefusal>> {
+        from: usize,
+    ) -> Offered<Result<Next<Modifier>, Refusal>> {
+        Some(tx3g::next_modifier(sample, from))
+    }
+
+    fn style(&self, entry: &[u8], sample: &[u8], k: usize) -> Offered<Result<[u8; 12], Fault>> {
         Some(tx3g::style(entry, sample, k))
     }
 
-    fn text_box(&self, entry: &[u8], sample: &[u8]) -> Offered<Result<TextBoxAt, Tx3gRefusal>> {
+    fn text_box(&self, entry: &[u8], sample: &[u8]) -> Offered<Result<TextBoxAt, Fault>> {
         Some(tx3g::text_box(entry, sample).map(|found| {
             let mut bytes = [0; 8];
             bytes.copy_from_slice(found.bytes);
@@ -164,6 +235,7 @@ impl Library for Model {
                 who: found.who,
                 offset: found.offset,
                 bytes,
+                sides: found.sides,
             }
         }))
     }

@@ -1,8 +1,7 @@
 //! Rows of input and answer: fields separated by a tab, `=` between inputs and answers.
 
 use captions_model::number::BAD_TEXT;
-use captions_model::tx3g::{Tx3gRefusal, Who};
-use captions_model::Refusal;
+use captions_model::{Fault, Refusal, Who};
 
 /// What the rows of a file have beside the inputs of a question and its answer.
 #[derive(Clone, Copy)]
@@ -87,13 +86,11 @@ impl From<Refusal> for Refused {
     }
 }
 
-impl From<Tx3gRefusal> for Refused {
-    fn from(refusal: Tx3gRefusal) -> Self {
+impl From<Fault> for Refused {
+    fn from(fault: Fault) -> Self {
         Refused {
-            who: Some(refusal.who),
-            number: refusal.number,
-            place: refusal.place,
-            offset: Some(refusal.offset),
+            who: Some(fault.who),
+            ..fault.refusal.into()
         }
     }
 }

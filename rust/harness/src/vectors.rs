@@ -1,16 +1,21 @@
 //! Runs every row and every foreign track against a library.
 
+mod foreign;
+
 use std::fmt::{self, Debug, Display};
 use std::path::Path;
 use std::{fs, io};
 
-use captions_model::track::samples;
-use captions_model::tx3g::Who;
+use captions_model::number::NO_ROOM;
+use captions_model::pack::Packed;
+use captions_model::unpack::Unpacked;
 use captions_model::wvtt::Cue;
-use captions_model::Refusal;
+use captions_model::{Fault, Refusal, Who};
 
 use crate::library::Library;
-use crate::rows::{bytes, hex, judged, number, tx3g_judged, who, Form, Refused, Row};
+use crate::rows::{bytes, hex, number, who, Form, Refused, Row};
+
+use foreign::{run_foreign, run_foreign_programs};
 
 /// What became of a row.
 enum Verdict {
@@ -284,8 +289,13 @@ fn cue_field(sample: &[u8], cues: &[Cue]) -> String {
 }
 
 fn run_wvtt_entry(library: &dyn Library, row: &Row) -> Verdict {
-    let got = library.judge_wvtt_entry(&row.bytes(0));
-    compare_judged(got, row.judged().0)
+    let got = library.read_wvtt_entry(&row.bytes(0));
+    compare_judged(only_judged(got), row.judged().0)
+}
+
+/// An answer without what was read.
+fn only_judged<T, E>(got: Option<Result<T, E>>) -> Option<Result<(), E>> {
+    got.map(|answer| answer.map(drop))
 }
 
 fn run_list(library: &dyn Library, row: &Row) -> Verdict {
@@ -301,12 +311,11 @@ fn holds(out: &[u8], result: &[u8]) -> bool {
     out.starts_with(result) && out[result.len()..].iter().all(|&b| b == UNTOUCHED)
 }
 
+/// A count and two lengths.
+type Sizes = (u64, usize, usize);
+
 /// Compares a count and two written outputs with a row's.
-fn compare_written(
-    got: Option<Result<(u64, usize, usize), Refusal>>,
-    outputs: [&[u8]; 2],
-    row: &Row,
-) -> Verdict {
+fn compare_written(got: Option<Result<Sizes, Refusal>>, outputs: [&[u8]; 2], row: &Row) -> Verdict {
     let (expected, more) = row.judged();
     let count = number(more[0]);
     let wanted = match expected {
@@ -324,10 +333,36 @@ fn run_pack(library: &dyn Library, row: &Row) -> Verdict {
     let mut table = vec![UNTOUCHED; row.size(4)];
     let mut samples = vec![UNTOUCHED; row.size(5)];
     let (scale, t) = (row.time(0), row.time(1));
+    let sizes = |p: Packed| (u64::from(p.samples), p.table_bytes, p.sample_bytes);
     let got = library.pack(scale, t, &records, &pool, &mut table, &mut samples);
-    let got =
-        got.map(|packed| packed.map(|p| (u64::from(p.samples), p.table_bytes, p.sample_bytes)));
-    compare_written(got, [&table, &samples], row)
+    let got = got.map(|packed| packed.map(sizes));
+    let room = library.pack_room(scale, t, &records, &pool);
+    let room = compare_room(room.map(|room| room.map(sizes)), row);
+    both(compare_written(got, [&table, &samples], row), room)
+}
+
+/// Compares a room with a row: where there is none for its result, the room is past the row's.
+fn compare_room(got: Option<Result<Sizes, Refusal>>, row: &Row) -> Verdict {
+    let (expected, more) = row.judged();
+    match expected {
+        Ok(()) => {
+            let lengths = [1, 2].map(|at| bytes(more[at]).len());
+            compare_judged(got, Ok((number(more[0]), lengths[0], lengths[1])))
+        }
+        Err(refused) if refused.number == NO_ROOM => {
+            let rooms = row.inputs.len() - 2;
+            let (first, second) = (row.size(rooms), row.size(rooms + 1));
+            let short = |(_, a, b): Sizes| {
+                if a > first {
+                    0
+                } else {
+                    1 + usize::from(b <= second)
+                }
+            };
+            compare_judged(got.map(|room| room.map(short)), Ok(refused.place))
+        }
+        Err(refused) => compare_judged(only_judged(got), Err(refused)),
+    }
 }
 
 fn run_track(library: &dyn Library, row: &Row) -> Verdict {
@@ -339,26 +374,43 @@ fn run_unpack(library: &dyn Library, row: &Row) -> Verdict {
     let (table, samples) = (row.bytes(1), row.bytes(2));
     let mut records = vec![UNTOUCHED; row.size(3)];
     let mut pool = vec![UNTOUCHED; row.size(4)];
+    let sizes = |u: Unpacked| (u64::from(u.t), u.record_bytes, u.pool_bytes);
     let got = library.unpack(row.time(0), &table, &samples, &mut records, &mut pool);
-    let got = got.map(|unpacked| unpacked.map(|u| (u64::from(u.t), u.record_bytes, u.pool_bytes)));
-    compare_written(got, [&records, &pool], row)
+    let got = got.map(|unpacked| unpacked.map(sizes));
+    let room = library.unpack_room(row.time(0), &table, &samples);
+    let room = compare_room(room.map(|room| room.map(sizes)), row);
+    both(compare_written(got, [&records, &pool], row), room)
 }
 
 fn run_check(library: &dyn Library, row: &Row) -> Verdict {
     let [records, pool, table, samples] = [2, 3, 4, 5].map(|input| row.bytes(input));
     let got = library.check(row.time(0), row.time(1), &records, &pool, &table, &samples);
-    compare_judged(got, row.judged().0)
+    compare_judged(nameless(got), row.judged().0)
+}
+
+/// The check's answer without who is at fault, which rows do not give.
+fn nameless(got: Option<Result<(), Fault>>) -> Option<Result<(), Refusal>> {
+    got.map(|answer| answer.map_err(|fault| fault.refusal))
 }
 
 fn run_tx3g_entry(library: &dyn Library, row: &Row) -> Verdict {
-    let got = library.judge_tx3g_entry(&row.bytes(0));
-    compare_judged(got, row.judged().0)
+    let got = library.read_tx3g_entry(&row.bytes(0));
+    compare_judged(only_judged(got), row.judged().0)
 }
 
 fn run_tx3g_sample(library: &dyn Library, row: &Row) -> Verdict {
-    let got = library.judge_tx3g_sample(&row.bytes(0), &row.bytes(1));
+    let got = tx3g_characters(library, &row.bytes(0), &row.bytes(1));
     let (expected, more) = row.tx3g_judged();
     compare_judged(got, expected.map(|()| number(more[0]) as usize))
+}
+
+fn tx3g_characters(
+    library: &dyn Library,
+    entry: &[u8],
+    sample: &[u8],
+) -> Option<Result<usize, Fault>> {
+    let read = library.read_tx3g_sample(entry, sample);
+    read.map(|answer| answer.map(|sample| sample.characters))
 }
 
 fn run_style(library: &dyn Library, row: &Row) -> Verdict {
@@ -371,15 +423,15 @@ fn run_style(library: &dyn Library, row: &Row) -> Verdict {
 fn run_text_box(library: &dyn Library, row: &Row) -> Verdict {
     let (entry, sample) = (row.bytes(0), row.bytes(1));
     let got = library.text_box(&entry, &sample);
-    let got = got.map(|found| found.map(|b| (b.who, b.offset, b.bytes.to_vec())));
+    let got = got.map(|found| found.map(|b| (b.who, b.offset, b.bytes.to_vec(), b.sides)));
     let (expected, more) = row.tx3g_judged();
     let expected = expected.map(|()| {
         let (who, offset) = (who(more[0]), number(more[1]) as usize);
-        let whole = match who {
-            Who::Entry => &entry,
-            Who::Sample => &sample,
-        };
-        (who, offset, whole[offset..offset + 8].to_vec())
+        let whole = if who == Who::Entry { &entry } else { &sample };
+        let bytes = whole[offset..offset + 8].to_vec();
+        let side = |at: usize| i16::from_be_bytes([bytes[at], bytes[at + 1]]);
+        let sides = [0, 2, 4, 6].map(side);
+        (who, offset, bytes, sides)
     });
     compare_judged(got, expected)
 }
@@ -388,126 +440,4 @@ fn run_program(library: &dyn Library, row: &Row) -> Verdict {
     let (records, pool) = (row.file(1), row.file(2));
     let got = library.program(&row.bytes(0), records.as_deref(), pool.as_deref());
     compare(got, bytes(row.answers[0]))
-}
-
-/// A foreign track's files.
-struct Foreign {
-    entry: Vec<u8>,
-    table: Vec<u8>,
-    samples: Vec<u8>,
-}
-
-impl Foreign {
-    fn read(dir: &Path) -> io::Result<Self> {
-        Ok(Foreign {
-            entry: fs::read(dir.join("entry.bin"))?,
-            table: fs::read(dir.join("table.bin"))?,
-            samples: fs::read(dir.join("samples.bin"))?,
-        })
-    }
-
-    fn sample(&self, index: usize) -> &[u8] {
-        let found = samples(&self.table, &self.samples).nth(index);
-        found.map_or(&[], |(_, sample)| sample)
-    }
-}
-
-fn run_foreign(library: &dyn Library, dir: &Path) -> io::Result<FileReport> {
-    let mut report = FileReport::new("foreign/answers.tsv");
-    let rows = fs::read_to_string(dir.join("answers.tsv"))?;
-    for (index, line) in rows.lines().enumerate() {
-        let fields: Vec<&str> = line.split('\t').collect();
-        let track_dir = dir.join(fields[0]).join(fields[1]);
-        let track = Foreign::read(&track_dir)?;
-        let verdict = match (fields[0], fields[2]) {
-            (_, "check") => run_foreign_check(library, &track_dir, &track, &fields[3..])?,
-            ("wvtt", asked) => run_foreign_wvtt(library, &track, asked, &fields[3..]),
-            (_, asked) => run_foreign_tx3g(library, &track, asked, &fields[3..]),
-        };
-        report.add(index + 1, verdict);
-    }
-    Ok(report)
-}
-
-/// The index in `sample 3`.
-fn sample_index(asked: &str) -> Option<usize> {
-    asked
-        .strip_prefix("sample ")
-        .map(|index| number(index) as usize)
-}
-
-fn run_foreign_wvtt(
-    library: &dyn Library,
-    track: &Foreign,
-    asked: &str,
-    answers: &[&str],
-) -> Verdict {
-    let (expected, more) = judged(answers, false);
-    match (asked, sample_index(asked)) {
-        ("entry", _) => compare_judged(library.judge_wvtt_entry(&track.entry), expected),
-        ("track", _) => {
-            let got = library.judge_track(&track.table, &track.samples);
-            compare_judged(got, expected)
-        }
-        (_, Some(index)) => {
-            let sample = track.sample(index);
-            let judged = compare_judged(library.judge_sample(sample), expected);
-            let expected = expected.map(|()| number(more[0]));
-            let count = |cues: Vec<Cue>| cues.len() as u64;
-            let count = library.cues(sample).map(|cues| cues.map(count));
-            both(judged, compare_judged(count, expected))
-        }
-        _ => Verdict::Differs(format!("unknown question {asked}")),
-    }
-}
-
-fn run_foreign_tx3g(
-    library: &dyn Library,
-    track: &Foreign,
-    asked: &str,
-    answers: &[&str],
-) -> Verdict {
-    let Some(index) = sample_index(asked) else {
-        let got = library.judge_tx3g_entry(&track.entry);
-        return compare_judged(got, judged(answers, false).0);
-    };
-    let (expected, more) = tx3g_judged(answers, false);
-    let got = library.judge_tx3g_sample(&track.entry, track.sample(index));
-    compare_judged(got, expected.map(|()| number(more[0]) as usize))
-}
-
-fn run_foreign_check(
-    library: &dyn Library,
-    dir: &Path,
-    track: &Foreign,
-    answers: &[&str],
-) -> io::Result<Verdict> {
-    let input = fs::read_to_string(dir.join("input.txt"))?;
-    let Some((scale, t)) = input.trim_end().split_once(' ') else {
-        return Ok(Verdict::Differs(format!("bad input line {input:?}")));
-    };
-    let (records, pool) = (
-        fs::read(dir.join("cues.rec"))?,
-        fs::read(dir.join("cues.pool"))?,
-    );
-    let (scale, t) = (number(scale) as u32, number(t) as u32);
-    let got = library.check(scale, t, &records, &pool, &track.table, &track.samples);
-    Ok(compare_judged(got, judged(answers, false).0))
-}
-
-/// The program's output for the cue list beside each `wvtt` track that is packing's own.
-fn run_foreign_programs(library: &dyn Library, dir: &Path) -> io::Result<FileReport> {
-    let mut report = FileReport::new("foreign/wvtt/*/expect.txt");
-    let tracks: io::Result<Vec<_>> = fs::read_dir(dir)?.map(|d| d.map(|d| d.path())).collect();
-    let mut tracks = tracks?;
-    tracks.retain(|track| !track.to_string_lossy().ends_with("-honest"));
-    tracks.sort();
-    for (index, track) in tracks.iter().enumerate() {
-        let read = |name: &str| fs::read(track.join(name));
-        let (input, expected) = (read("input.txt")?, read("expect.txt")?);
-        let (records, pool) = (read("cues.rec")?, read("cues.pool")?);
-        let got = library.program(&input, Some(&records), Some(&pool));
-        report.add(index + 1, compare(got, expected));
-    }
-    Ok(report)
 }

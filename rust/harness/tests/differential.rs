@@ -1,7 +1,8 @@
 //! The random inputs reach every number, and wrong libraries are found.
 
 use captions_harness::{
-    differential, Counts, Library, Model, Offered, Packed, Refusal, Tx3gRefusal, Unpacked,
+    differential, Counts, Entry, Fault, Font, Library, Model, Offered, Packed, Refusal, Run, RunAt,
+    RunInput, TextBoxAt, Tx3gSample, Unpacked, Who,
 };
 use captions_model::{list, text};
 
@@ -28,17 +29,26 @@ fn every_number_is_reached() {
     };
     reached("box_step", &[0, 1, 2]);
     reached("judge_sample", &[0, 1, 2, 3, 4, 5, 6, 8, 9]);
-    reached("judge_wvtt_entry", &[0, 1, 2, 3, 4, 6]);
+    reached("next_cue", &[0, 1, 2]);
+    reached("read_wvtt_entry", &[0, 1, 2, 3, 4, 6]);
+    reached("wvtt_entry_room", &[0, 6]);
+    reached("write_wvtt_entry", &[0, 6, 15]);
     reached("judge_list", &[0, 1, 6, 8, 9, 10, 11, 12]);
+    reached("pack_room", &[0, 1, 6, 8, 9, 10, 11, 12]);
     reached("pack", &[0, 1, 6, 8, 9, 10, 11, 12, 15]);
     reached("judge_track", &[0, 1, 2, 3, 4, 5, 6, 8, 9, 10]);
-    reached(
-        "unpack",
-        &[0, 1, 2, 3, 4, 5, 6, 8, 9, 10, 11, 12, 13, 14, 15, 17],
-    );
+    let unpacking = [0, 1, 2, 3, 4, 5, 6, 8, 9, 10, 11, 12, 13, 14, 17];
+    reached("unpack_room", &unpacking);
+    reached("unpack", &unpacking);
+    reached("unpack", &[15]);
     reached("check", &[0, 1, 2, 3, 4, 5, 6, 8, 9, 10, 11, 12, 16]);
-    reached("judge_tx3g_entry", &[0, 1, 2, 3, 4, 7, 8, 9]);
-    reached("judge_tx3g_sample", &[0, 1, 2, 3, 4, 6, 7, 8, 9]);
+    reached("read_tx3g_entry", &[0, 1, 2, 3, 4, 7, 8, 9]);
+    reached("fonts", &[0, 1, 2, 3, 4, 7, 8, 9]);
+    reached("font_at", &[0]);
+    reached("read_tx3g_sample", &[0, 1, 2, 3, 4, 6, 7, 8, 9]);
+    reached("runs", &[0, 1, 2, 3, 4, 6, 7, 8, 9]);
+    reached("next_run", &[0]);
+    reached("next_modifier", &[0, 1, 2]);
     reached("program", &[0, 1, 6, 8, 9, 10, 11, 12, 15]);
 }
 
@@ -60,13 +70,14 @@ fn many_offsets_are_reached() {
     reached("characters", 60);
     reached("judge_sample", 60);
     reached("cues", 60);
-    reached("judge_wvtt_entry", 30);
+    reached("read_wvtt_entry", 30);
+    reached("write_wvtt_entry", 30);
     reached("judge_list", 30);
     reached("pack", 30);
     reached("judge_track", 30);
     reached("unpack", 30);
     reached("check", 30);
-    reached("judge_tx3g_sample", 30);
+    reached("read_tx3g_sample", 30);
     reached("style", 30);
     reached("text_box", 30);
     reached("modifiers", 30);
@@ -132,15 +143,140 @@ impl Library for ChecksLess {
         pool: &[u8],
         table: &[u8],
         samples: &[u8],
-    ) -> Offered<Result<(), Refusal>> {
+    ) -> Offered<Result<(), Fault>> {
         let answer = Model.check(scale, t, records, pool, table, samples)?;
-        Some(answer.or_else(|r| {
-            if r.number == 16 && r.place > 2 {
+        Some(answer.or_else(|fault| {
+            if fault.refusal.number == 16 && fault.refusal.place > 2 {
                 Ok(())
             } else {
-                Err(r)
+                Err(fault)
             }
         }))
+    }
+}
+
+/// Lays every fault to the track.
+struct BlamesTheTrack;
+
+impl Library for BlamesTheTrack {
+    fn check(
+        &self,
+        scale: u32,
+        t: u32,
+        records: &[u8],
+        pool: &[u8],
+        table: &[u8],
+        samples: &[u8],
+    ) -> Offered<Result<(), Fault>> {
+        let answer = Model.check(scale, t, records, pool, table, samples)?;
+        let who = Who::Track;
+        Some(answer.map_err(|fault| Fault { who, ..fault }))
+    }
+}
+
+/// Needs more room than it writes.
+struct WantsMore;
+
+impl Library for WantsMore {
+    fn unpack_room(
+        &self,
+        scale: u32,
+        table: &[u8],
+        samples: &[u8],
+    ) -> Offered<Result<Unpacked, Refusal>> {
+        let answer = Model.unpack_room(scale, table, samples)?;
+        Some(answer.map(|room| Unpacked {
+            pool_bytes: room.pool_bytes + 1,
+            ..room
+        }))
+    }
+}
+
+/// Writes the data reference index with its bytes swapped.
+struct SwapsTheIndex;
+
+impl Library for SwapsTheIndex {
+    fn write_wvtt_entry(
+        &self,
+        configuration: &[u8],
+        label: Option<&[u8]>,
+        index: u16,
+        entry: &mut [u8],
+    ) -> Offered<Result<usize, Refusal>> {
+        Model.write_wvtt_entry(configuration, label, index.swap_bytes(), entry)
+    }
+}
+
+/// Takes an empty label for none.
+struct NoEmptyLabel;
+
+impl Library for NoEmptyLabel {
+    fn read_wvtt_entry(&self, entry: &[u8]) -> Offered<Result<Entry, Refusal>> {
+        let answer = Model.read_wvtt_entry(entry)?;
+        Some(answer.map(|read| Entry {
+            label: read.label.filter(|label| !label.is_empty()),
+            ..read
+        }))
+    }
+}
+
+/// Reads a text box without its sign.
+struct NoSigns;
+
+impl Library for NoSigns {
+    fn text_box(&self, entry: &[u8], sample: &[u8]) -> Offered<Result<TextBoxAt, Fault>> {
+        let answer = Model.text_box(entry, sample)?;
+        Some(answer.map(|found| TextBoxAt {
+            sides: found.sides.map(|side| side & i16::MAX),
+            ..found
+        }))
+    }
+}
+
+/// Gives the fonts by their IDs.
+struct SortsFonts;
+
+impl Library for SortsFonts {
+    fn fonts(&self, entry: &[u8]) -> Offered<Result<Vec<Font>, Refusal>> {
+        let mut answer = Model.fonts(entry)?;
+        if let Ok(fonts) = &mut answer {
+            fonts.sort_by_key(|font| font.id);
+        }
+        Some(answer)
+    }
+}
+
+/// Cuts a run of the default style where a style begins that holds no character.
+struct CutsAtEmptyStyles;
+
+impl Library for CutsAtEmptyStyles {
+    fn next_run(&self, sample: &[u8], input: RunInput) -> Offered<Option<RunAt>> {
+        let answer = Model.next_run(sample, input)?;
+        let start = input
+            .styles_from
+            .checked_add(1)
+            .and_then(|at| sample.get(at));
+        let start = start.map_or(0, |&byte| usize::from(byte));
+        Some(answer.map(|run| {
+            let mut range = run.range;
+            if run.look.is_none() && range.start < start && start < range.end {
+                range.end = start;
+            }
+            RunAt { range, ..run }
+        }))
+    }
+}
+
+/// Leaves out a last run of the default style.
+struct EndsWithTheStyles;
+
+impl Library for EndsWithTheStyles {
+    fn runs(&self, entry: &[u8], sample: &[u8]) -> Offered<Result<Vec<Run>, Fault>> {
+        let mut answer = Model.runs(entry, sample)?;
+        if let Ok(runs) = &mut answer {
+            runs.truncate(runs.len().saturating_sub(1).max(1));
+        }
+        Some(answer)
     }
 }
 
@@ -148,13 +284,12 @@ impl Library for ChecksLess {
 struct CountsBytes;
 
 impl Library for CountsBytes {
-    fn judge_tx3g_sample(
-        &self,
-        entry: &[u8],
-        sample: &[u8],
-    ) -> Offered<Result<usize, Tx3gRefusal>> {
-        let answer = Model.judge_tx3g_sample(entry, sample)?;
-        Some(answer.map(|_| usize::from(u16::from_be_bytes([sample[0], sample[1]]))))
+    fn read_tx3g_sample(&self, entry: &[u8], sample: &[u8]) -> Offered<Result<Tx3gSample, Fault>> {
+        let answer = Model.read_tx3g_sample(entry, sample)?;
+        Some(answer.map(|read| Tx3gSample {
+            characters: read.text.len(),
+            ..read
+        }))
     }
 }
 
@@ -222,15 +357,14 @@ impl Library for StartsOfCharacters {
 struct CountsFromTheSample;
 
 impl Library for CountsFromTheSample {
-    fn judge_tx3g_sample(
-        &self,
-        entry: &[u8],
-        sample: &[u8],
-    ) -> Offered<Result<usize, Tx3gRefusal>> {
-        let answer = Model.judge_tx3g_sample(entry, sample)?;
-        Some(answer.map_err(|r| {
-            let offset = if r.number == 6 { r.offset + 2 } else { 0 };
-            Tx3gRefusal { offset, ..r }
+    fn read_tx3g_sample(&self, entry: &[u8], sample: &[u8]) -> Offered<Result<Tx3gSample, Fault>> {
+        let answer = Model.read_tx3g_sample(entry, sample)?;
+        Some(answer.map_err(|fault| {
+            let mut refusal = fault.refusal;
+            if refusal.number == 6 {
+                refusal.offset += 2;
+            }
+            Fault { refusal, ..fault }
         }))
     }
 }
@@ -240,12 +374,20 @@ fn wrong_libraries_are_found() {
     assert_found(&ClearsTheRest, "pack");
     assert_found(&WritesOnRefusal, "unpack");
     assert_found(&ChecksLess, "check");
-    assert_found(&CountsBytes, "judge_tx3g_sample");
+    assert_found(&BlamesTheTrack, "check");
+    assert_found(&WantsMore, "unpack_room");
+    assert_found(&SwapsTheIndex, "write_wvtt_entry");
+    assert_found(&NoEmptyLabel, "read_wvtt_entry");
+    assert_found(&NoSigns, "text_box");
+    assert_found(&SortsFonts, "fonts");
+    assert_found(&CutsAtEmptyStyles, "next_run");
+    assert_found(&EndsWithTheStyles, "runs");
+    assert_found(&CountsBytes, "read_tx3g_sample");
     assert_found(&NoPlaces, "judge_sample");
     assert_found(&NoOffsets, "judge_list");
     assert_found(&LastBadText, "pack");
     assert_found(&StartsOfCharacters, "judge_utf8");
-    assert_found(&CountsFromTheSample, "judge_tx3g_sample");
+    assert_found(&CountsFromTheSample, "read_tx3g_sample");
 }
 
 #[test]

@@ -6,13 +6,14 @@ use captions_harness::generate::{self, box_of, CueList, Track};
 use captions_harness::random::Random;
 use captions_model::check::check;
 use captions_model::list::{judge_list, records};
+use captions_model::runs::{look, next_run, runs, Look, Run};
 use captions_model::text::{
     characters, configuration_fault, identifier_fault, label_fault, payload_fault, utf8_fault,
 };
 use captions_model::time::tick;
 use captions_model::track::{judge_track, samples, table_records};
 use captions_model::unpack::unpack;
-use captions_model::{wvtt, Refusal};
+use captions_model::{tx3g, wvtt, Fault, Refusal, Who};
 
 const ROUNDS: u64 = 6000;
 
@@ -48,8 +49,14 @@ fn holds(sample: &[u8], expected: &[(u32, [&[u8]; 3])]) -> bool {
 }
 
 /// The check, tick by tick.
-fn slow_check(list: &CueList, track: &Track) -> Result<(), Refusal> {
-    judge_list(list.scale, list.t, &list.records, &list.pool)?;
+fn slow_check(list: &CueList, track: &Track) -> Result<(), Fault> {
+    let at_fault = |who| move |refusal| Fault { who, refusal };
+    let judged = judge_list(list.scale, list.t, &list.records, &list.pool);
+    judged.map_err(at_fault(Who::List))?;
+    slow_compare(list, track).map_err(at_fault(Who::Track))
+}
+
+fn slow_compare(list: &CueList, track: &Track) -> Result<(), Refusal> {
     judge_track(&track.table, &track.samples)?;
     let last = tick(list.scale, list.t);
     let mut begin = 0;
@@ -86,7 +93,7 @@ fn check_is_right_at_every_tick() {
         let got = check(*scale, *t, records, pool, &track.table, &track.samples);
         assert_eq!(got, slow_check(&list, &track), "{list:?} {track:?}");
         accepted += usize::from(got.is_ok());
-        differing += usize::from(got.is_err_and(|r| r.number == 16));
+        differing += usize::from(got.is_err_and(|fault| fault.refusal.number == 16));
     }
     assert!(accepted > 300 && differing > 100, "{accepted} {differing}");
 }
@@ -273,6 +280,88 @@ fn unpacking_gives_a_good_list_that_the_check_accepts() {
         seen += 1;
     }
     assert!(seen > 1000 && accepted > 300, "{seen} {accepted}");
+}
+
+#[test]
+fn an_entry_is_read_as_it_was_written() {
+    let mut seen = 0;
+    for mut random in rounds() {
+        let parts = generate::entry_parts(&mut random);
+        let (configuration, label) = (&parts.configuration, parts.label.as_deref());
+        let mut out = vec![0; 1 << 13];
+        let Ok(size) = wvtt::write_entry(configuration, label, parts.index, &mut out) else {
+            continue;
+        };
+        assert_eq!(wvtt::entry_room(configuration, label), Ok(size));
+        let read = wvtt::read_entry(&out[..size]).expect("what is written is good");
+        assert_eq!(read.data_reference_index, parts.index);
+        assert_eq!(read.configuration.of(&out), configuration);
+        assert_eq!(read.label.map(|part| part.of(&out)), label);
+        seen += 1;
+    }
+    assert!(seen > 1000);
+}
+
+/// Whether a record that holds a character begins there.
+fn begins(sample: &[u8], read: &tx3g::Sample, k: usize) -> bool {
+    let records = read.styles.unwrap_or_default().of(sample);
+    let at =
+        |record: &[u8], at: usize| usize::from(u16::from_be_bytes([record[at], record[at + 1]]));
+    let mut records = records.chunks_exact(12);
+    records.any(|record| at(record, 0) == k && at(record, 2) > k)
+}
+
+/// The runs of a good sample, character by character.
+fn slow_runs(entry: &[u8], sample: &[u8], read: &tx3g::Sample) -> Vec<Run> {
+    let mut found: Vec<Run> = Vec::new();
+    let mut previous: Option<[u8; 12]> = None;
+    for k in 0..read.characters {
+        let style = tx3g::style(entry, sample, k).expect("k is in the text");
+        match found.last_mut() {
+            Some(run) if previous == Some(style) && !begins(sample, read, k) => run.end = k + 1,
+            _ => found.push(Run {
+                from: k,
+                end: k + 1,
+                look: look(&style),
+            }),
+        }
+        previous = Some(style);
+    }
+    found
+}
+
+/// All runs, one after the other by the places behind them.
+fn walked_runs(sample: &[u8], read: &tx3g::Sample, default: Look) -> Vec<Run> {
+    let (mut styles, mut from) = read.style_table();
+    let mut found: Vec<Run> = Vec::new();
+    let mut k = 0;
+    while let Some(run) = next_run(sample, styles, from, k, read.characters) {
+        (styles, from, k) = (run.styles, run.styles_from, run.range.end);
+        found.push(Run {
+            from: run.range.start,
+            end: run.range.end,
+            look: run.look.unwrap_or(default),
+        });
+    }
+    found
+}
+
+#[test]
+fn runs_keep_their_definition() {
+    let (mut seen, mut several) = (0, 0);
+    for mut random in rounds() {
+        let (entry, sample) = generate::tx3g_input(&mut random);
+        let Ok(read) = tx3g::read_sample(&entry, &sample) else {
+            continue;
+        };
+        let default = tx3g::read_entry(&entry).expect("a good entry").style();
+        let all: Vec<Run> = runs(&entry, &sample).expect("a good sample").collect();
+        assert_eq!(all, slow_runs(&entry, &sample, &read), "{sample:x?}");
+        assert_eq!(all, walked_runs(&sample, &read, look(&default)));
+        seen += 1;
+        several += usize::from(all.len() > 2);
+    }
+    assert!(seen > 1000 && several > 200, "{seen} {several}");
 }
 
 /// The class of a byte, as the rules name them.

@@ -4,7 +4,7 @@ use crate::list::{judge_list, Record, RECORD};
 use crate::number::DIFFERS;
 use crate::timeline::{Running, Timeline};
 use crate::track::{judge_track, samples, table_records};
-use crate::{ensure, wvtt, Refusal};
+use crate::{ensure, fault, wvtt, Fault, Refusal, Who};
 
 /// Checks that the track shows the list's cues at every tick from 0 to T.
 pub fn check(
@@ -14,8 +14,20 @@ pub fn check(
     pool: &[u8],
     table: &[u8],
     sample_bytes: &[u8],
+) -> Result<(), Fault> {
+    judge_list(scale, t, list, pool).map_err(fault(Who::List))?;
+    check_track(scale, t, list, pool, table, sample_bytes).map_err(fault(Who::Track))
+}
+
+/// Judges the track and compares it with a good list.
+fn check_track(
+    scale: u32,
+    t: u32,
+    list: &[u8],
+    pool: &[u8],
+    table: &[u8],
+    sample_bytes: &[u8],
 ) -> Result<(), Refusal> {
-    judge_list(scale, t, list, pool)?;
     judge_track(table, sample_bytes)?;
     let line = Timeline::new(scale, t, list);
     let mut running = Running::new(&line);

@@ -9,6 +9,7 @@ pub mod check;
 pub mod list;
 pub mod pack;
 pub mod program;
+pub mod runs;
 pub mod text;
 pub mod time;
 mod timeline;
@@ -82,6 +83,27 @@ impl Refusal {
             offset,
         }
     }
+}
+
+/// Who is at fault, or where something stands.
+#[derive(Clone, Copy, Debug, PartialEq, Eq)]
+pub enum Who {
+    Entry,
+    Sample,
+    List,
+    Track,
+}
+
+/// A refusal where two things are read together.
+#[derive(Clone, Copy, Debug, PartialEq, Eq)]
+pub struct Fault {
+    pub who: Who,
+    pub refusal: Refusal,
+}
+
+/// Says who is at fault.
+pub(crate) fn fault(who: Who) -> impl Fn(Refusal) -> Fault {
+    move |refusal| Fault { who, refusal }
 }
 
 /// A refusal as a result.

@@ -7,7 +7,7 @@ use crate::timeline::Timeline;
 use crate::track::TABLE_RECORD;
 use crate::{ensure, Refusal};
 
-/// What packing wrote.
+/// What packing wrote, or what it needs.
 #[derive(Clone, Copy, Debug, PartialEq, Eq)]
 pub struct Packed {
     pub samples: u32,
@@ -26,15 +26,27 @@ pub fn pack(
 ) -> Result<Packed, Refusal> {
     judge_list(scale, t, list, pool)?;
     let line = Timeline::new(scale, t, list);
-    let mut sizes = [0; MOST_RECORDS];
-    for (size, record) in sizes.iter_mut().zip(records(list)) {
-        *size = cue_size(&record);
-    }
+    let sizes = cue_sizes(list);
     let packed = measure(&line, &sizes);
     ensure(packed.table_bytes <= table.len(), NO_ROOM, 0)?;
     ensure(packed.sample_bytes <= samples.len(), NO_ROOM, 1)?;
     write(&line, &sizes, list, pool, table, samples);
     Ok(packed)
+}
+
+/// What packing answers given room for everything.
+pub fn room(scale: u32, t: u32, list: &[u8], pool: &[u8]) -> Result<Packed, Refusal> {
+    judge_list(scale, t, list, pool)?;
+    Ok(measure(&Timeline::new(scale, t, list), &cue_sizes(list)))
+}
+
+/// The bytes of each cue's `vttc`.
+fn cue_sizes(list: &[u8]) -> [usize; MOST_RECORDS] {
+    let mut sizes = [0; MOST_RECORDS];
+    for (size, record) in sizes.iter_mut().zip(records(list)) {
+        *size = cue_size(&record);
+    }
+    sizes
 }
 
 /// The bytes of a cue's `vttc`.

@@ -1,9 +1,15 @@
 //! 3GPP text: sample entries, samples, styles and text boxes.
 
-use crate::boxes::{be16, be32, boxes_from, BoxAt};
+mod modifiers;
+
+pub use modifiers::{modifiers, next_modifier, Modifier};
+
+use modifiers::read_modifier;
+
+use crate::boxes::{be16, be32, boxes_from};
 use crate::number::*;
 use crate::wvtt::judge_entry_head;
-use crate::{ensure, refuse, text, Refusal, Span};
+use crate::{ensure, fault, refuse, text, Fault, Refusal, Span, Who};
 
 /// The bytes of an entry before its boxes.
 pub const ENTRY_FIXED: usize = 46;
@@ -20,36 +26,12 @@ pub const KARAOKE: usize = 8;
 /// The most fonts in an entry.
 pub const MOST_FONTS: usize = 256;
 
-/// What is at fault, or where something stands.
-#[derive(Clone, Copy, Debug, PartialEq, Eq)]
-pub enum Who {
-    Entry,
-    Sample,
-}
-
-/// A refusal of an entry and a sample read together.
-#[derive(Clone, Copy, Debug, PartialEq, Eq)]
-pub struct Tx3gRefusal {
-    pub who: Who,
-    pub number: u32,
-    pub place: usize,
-    /// Where the sample's text is bad, from the text's start; 0 for every other number.
-    pub offset: usize,
-}
-
-fn fault(who: Who) -> impl Fn(Refusal) -> Tx3gRefusal {
-    move |refusal| Tx3gRefusal {
-        who,
-        number: refusal.number,
-        place: refusal.place,
-        offset: refusal.offset,
-    }
-}
-
 /// The font IDs of an entry in rising order.
 pub struct Fonts {
     ids: [u16; MOST_FONTS],
     count: usize,
+    /// Where the first font stands.
+    from: usize,
 }
 
 impl Fonts {
@@ -68,24 +50,37 @@ pub struct Entry<'a> {
     pub fonts: Fonts,
 }
 
-impl Entry<'_> {
-    pub fn display_flags(&self) -> u32 {
-        be32(self.fixed, 16)
-    }
-
-    /// Horizontal and vertical justification.
-    pub fn justification(&self) -> [i8; 2] {
-        [self.fixed[20] as i8, self.fixed[21] as i8]
-    }
-
-    /// The background's red, green, blue and alpha.
-    pub fn background(&self) -> u32 {
-        be32(self.fixed, 22)
-    }
-
+/// What an entry says.
+#[derive(Clone, Copy, Debug, PartialEq, Eq)]
+pub struct Fields {
+    pub data_reference_index: u16,
+    pub display_flags: u32,
+    /// Horizontal and vertical.
+    pub justification: [i8; 2],
+    /// Red, green, blue and alpha.
+    pub background: [u8; 4],
     /// The default text box: top, left, bottom, right.
-    pub fn text_box(&self) -> [i16; 4] {
-        sides(&self.fixed[ENTRY_TEXT_BOX..ENTRY_STYLE])
+    pub text_box: [i16; 4],
+    /// The default style.
+    pub style: [u8; STYLE],
+    /// How many fonts there are, and where the first stands.
+    pub fonts: usize,
+    pub fonts_from: usize,
+}
+
+impl Entry<'_> {
+    pub fn fields(&self) -> Fields {
+        let fixed = self.fixed;
+        Fields {
+            data_reference_index: be16(fixed, 14),
+            display_flags: be32(fixed, 16),
+            justification: [fixed[20] as i8, fixed[21] as i8],
+            background: array(&fixed[22..]),
+            text_box: sides(&fixed[ENTRY_TEXT_BOX..]),
+            style: self.style(),
+            fonts: self.fonts.count,
+            fonts_from: self.fonts.from,
+        }
     }
 
     /// The default style.
@@ -111,7 +106,7 @@ pub fn read_entry(entry: &[u8]) -> Result<Entry<'_>, Refusal> {
         let found = found?;
         if &found.kind == b"ftab" {
             ensure(fonts.is_none(), KIND_TWICE, found.place)?;
-            let read = read_fonts(found.body.of(entry));
+            let read = read_fonts(found.body.of(entry), found.body.start);
             fonts = Some(read.or_else(|number| refuse(number, found.place))?);
         }
     }
@@ -130,8 +125,8 @@ fn judge_fixed(fixed: &[u8; ENTRY_FIXED]) -> Result<(), Refusal> {
     ensure(good_box && be32(fixed, ENTRY_STYLE) == 0, BAD_RANGE, 0)
 }
 
-/// Reads an `ftab` body, or gives the number it is refused by.
-fn read_fonts(body: &[u8]) -> Result<Fonts, u32> {
+/// Reads an `ftab` body that begins at `at`, or gives the number it is refused by.
+fn read_fonts(body: &[u8], at: usize) -> Result<Fonts, u32> {
     let (&count, mut rest) = body.split_first_chunk::<2>().ok_or(BYTES_MISSING)?;
     let count = usize::from(u16::from_be_bytes(count));
     let mut ids = [0; MOST_FONTS];
@@ -152,55 +147,38 @@ fn read_fonts(body: &[u8]) -> Result<Fonts, u32> {
     if ids[..count].windows(2).any(|pair| pair[0] == pair[1]) {
         return Err(BAD_VALUE);
     }
-    Ok(Fonts { ids, count })
+    let from = at + 2;
+    Ok(Fonts { ids, count, from })
 }
 
-/// A modifier of a good sample. Its parts are places in the sample.
+/// A font and where its name stands.
 #[derive(Clone, Copy, Debug, PartialEq, Eq)]
-pub enum Modifier {
-    /// Style records of twelve bytes each.
-    Styl {
-        styles: Span,
-    },
-    Hlit {
-        start: u16,
-        end: u16,
-    },
-    Hclr {
-        rgba: [u8; 4],
-    },
-    /// Karaoke entries of eight bytes each: end time, start, end.
-    Krok {
-        start_time: u32,
-        entries: Span,
-    },
-    Dlay {
-        delay: u32,
-    },
-    Href {
-        start: u16,
-        end: u16,
-        url: Span,
-        alternative: Span,
-    },
-    /// The eight bytes of a text box.
-    Tbox {
-        sides: Span,
-    },
-    Blnk {
-        start: u16,
-        end: u16,
-    },
-    Twrp {
-        wrap: u8,
-    },
+pub struct Font {
+    pub id: u16,
+    pub name: Span,
 }
 
-/// The modifiers of a good sample from left to right; other boxes are passed over.
-pub fn modifiers(sample: &[u8]) -> impl Iterator<Item = Modifier> + '_ {
-    boxes_from(sample, boxes_begin(sample))
-        .map_while(Result::ok)
-        .filter_map(|found| read_modifier(sample, found).ok().flatten())
+/// The font at a byte of any bytes, if it is whole.
+pub fn font_at(bytes: &[u8], at: usize) -> Option<Font> {
+    let &[high, low, name] = bytes.get(at..)?.first_chunk()?;
+    let name = Span {
+        start: at + 3,
+        end: at + 3 + usize::from(name),
+    };
+    let id = u16::from_be_bytes([high, low]);
+    (name.end <= bytes.len()).then_some(Font { id, name })
+}
+
+/// The fonts of an entry in order.
+pub fn fonts(entry: &[u8]) -> Result<Vec<Font>, Refusal> {
+    let read = read_entry(entry)?;
+    let mut at = read.fonts.from;
+    let next = |_| {
+        let font = font_at(entry, at)?;
+        at = font.name.end;
+        Some(font)
+    };
+    Ok((0..read.fonts.count).map_while(next).collect())
 }
 
 /// Where the boxes of a sample with a whole text begin.
@@ -208,115 +186,41 @@ fn boxes_begin(sample: &[u8]) -> usize {
     2 + usize::from(be16(sample, 0))
 }
 
-/// Reads a modifier, or gives the number its length is refused by.
-fn read_modifier(sample: &[u8], found: BoxAt) -> Result<Option<Modifier>, u32> {
-    let at = found.body.start;
-    let body = found.body.of(sample);
-    let range = || (be16(body, 0), be16(body, 2));
-    Ok(Some(match &found.kind {
-        b"styl" => Modifier::Styl {
-            styles: read_counted(found.body, body, 2, STYLE)?,
-        },
-        b"hlit" => {
-            exact(body, 4)?;
-            let (start, end) = range();
-            Modifier::Hlit { start, end }
-        }
-        b"blnk" => {
-            exact(body, 4)?;
-            let (start, end) = range();
-            Modifier::Blnk { start, end }
-        }
-        b"hclr" => {
-            exact(body, 4)?;
-            Modifier::Hclr { rgba: array(body) }
-        }
-        b"krok" => {
-            let entries = read_counted(found.body, body, 6, KARAOKE)?;
-            Modifier::Krok {
-                start_time: be32(body, 0),
-                entries,
-            }
-        }
-        b"dlay" => {
-            exact(body, 4)?;
-            Modifier::Dlay {
-                delay: be32(body, 0),
-            }
-        }
-        b"href" => read_href(at, body)?,
-        b"tbox" => {
-            exact(body, TEXT_BOX)?;
-            Modifier::Tbox { sides: found.body }
-        }
-        b"twrp" => {
-            exact(body, 1)?;
-            Modifier::Twrp { wrap: body[0] }
-        }
-        _ => return Ok(None),
-    }))
+/// What a good sample holds.
+#[derive(Clone, Copy, Debug, PartialEq, Eq)]
+pub struct Sample {
+    pub characters: usize,
+    pub utf16: bool,
+    /// The text without the mark of UTF-16.
+    pub text: Span,
+    /// Where the modifier boxes begin.
+    pub modifiers: usize,
+    /// The style records, if there is a `styl`.
+    pub styles: Option<Span>,
+    pub text_box: Option<Span>,
 }
 
-/// A body of exactly `len` bytes.
-fn exact(body: &[u8], len: usize) -> Result<(), u32> {
-    match body.len() {
-        short if short < len => Err(BYTES_MISSING),
-        long if long > len => Err(BAD_SIZE),
-        _ => Ok(()),
+impl Sample {
+    /// How many styles there are, and where the first stands; 0 and 0 without `styl`.
+    pub fn style_table(&self) -> (usize, usize) {
+        let styles = self.styles.unwrap_or_default();
+        (styles.len() / STYLE, styles.start)
     }
-}
 
-/// Items of `size` bytes after `head` bytes that end in their count.
-fn read_counted(place: Span, body: &[u8], head: usize, size: usize) -> Result<Span, u32> {
-    if body.len() < head {
-        return Err(BYTES_MISSING);
+    /// The style records of the sample that it was read from.
+    pub(crate) fn style_records<'a>(&self, sample: &'a [u8]) -> &'a [[u8; STYLE]] {
+        let styles = self.styles.unwrap_or_default();
+        styles.of(sample).as_chunks().0
     }
-    let count = usize::from(be16(body, head - 2));
-    exact(body, head + count * size)?;
-    Ok(Span {
-        start: place.start + head,
-        end: place.end,
-    })
-}
-
-/// Range, URL and alternative text, each text after its length. The body begins at `at`.
-fn read_href(at: usize, body: &[u8]) -> Result<Modifier, u32> {
-    let length = |from: usize| body.get(from).map(|&n| usize::from(n)).ok_or(BYTES_MISSING);
-    let url_end = 5 + length(4)?;
-    let end = url_end + 1 + length(url_end)?;
-    exact(body, end)?;
-    Ok(Modifier::Href {
-        start: be16(body, 0),
-        end: be16(body, 2),
-        url: Span {
-            start: at + 5,
-            end: at + url_end,
-        },
-        alternative: Span {
-            start: at + url_end + 1,
-            end: at + end,
-        },
-    })
-}
-
-/// What the questions need of a good sample.
-struct Sample {
-    characters: usize,
-    styles: Span,
-    text_box: Option<Span>,
 }
 
 /// The kinds that stand at most once.
 const SINGLE_KINDS: [&[u8; 4]; 6] = [b"styl", b"hclr", b"krok", b"dlay", b"tbox", b"twrp"];
 
-fn read_sample(fonts: &Fonts, sample: &[u8]) -> Result<Sample, Refusal> {
-    let mut read = Sample {
-        characters: read_text(sample)?,
-        styles: Span::default(),
-        text_box: None,
-    };
+fn read_content(fonts: &Fonts, sample: &[u8]) -> Result<Sample, Refusal> {
+    let mut read = read_text(sample)?;
     let mut seen = 0u8;
-    for found in boxes_from(sample, boxes_begin(sample)) {
+    for found in boxes_from(sample, read.modifiers) {
         let found = found?;
         if let Some(kind) = SINGLE_KINDS.iter().position(|&k| *k == found.kind) {
             ensure(seen & (1 << kind) == 0, KIND_TWICE, found.place)?;
@@ -328,7 +232,7 @@ fn read_sample(fonts: &Fonts, sample: &[u8]) -> Result<Sample, Refusal> {
         };
         judge_modifier(fonts, read.characters, sample, &modifier).map_err(refused)?;
         match modifier {
-            Modifier::Styl { styles } => read.styles = styles,
+            Modifier::Styl { styles } => read.styles = Some(styles),
             Modifier::Tbox { sides } => read.text_box = Some(sides),
             _ => {}
         }
@@ -337,12 +241,25 @@ fn read_sample(fonts: &Fonts, sample: &[u8]) -> Result<Sample, Refusal> {
 }
 
 /// Judges the text and counts its characters.
-fn read_text(sample: &[u8]) -> Result<usize, Refusal> {
+fn read_text(sample: &[u8]) -> Result<Sample, Refusal> {
     ensure(sample.len() >= 2, BYTES_MISSING, 0)?;
-    let Some(text) = sample.get(2..boxes_begin(sample)) else {
+    let modifiers = boxes_begin(sample);
+    let Some(text) = sample.get(2..modifiers) else {
         return refuse(BYTES_MISSING, 0);
     };
-    text::characters(text).map_err(|offset| Refusal::bad_text(0, offset))
+    let characters = text::characters(text);
+    let utf16 = text.starts_with(b"\xFE\xFF");
+    Ok(Sample {
+        characters: characters.map_err(|offset| Refusal::bad_text(0, offset))?,
+        utf16,
+        text: Span {
+            start: if utf16 { 4 } else { 2 },
+            end: modifiers,
+        },
+        modifiers,
+        styles: None,
+        text_box: None,
+    })
 }
 
 fn judge_modifier(
@@ -403,7 +320,7 @@ fn is_range(start: u16, end: u16, characters: usize) -> bool {
     start <= end && usize::from(end) <= characters
 }
 
-fn style_range(style: &[u8; STYLE]) -> (u16, u16) {
+pub(crate) fn style_range(style: &[u8; STYLE]) -> (u16, u16) {
     (be16(style, 0), be16(style, 2))
 }
 
@@ -425,22 +342,22 @@ fn array<const N: usize>(bytes: &[u8]) -> [u8; N] {
 }
 
 /// Judges the entry, then the sample.
-fn read_both<'a>(entry: &'a [u8], sample: &[u8]) -> Result<(Entry<'a>, Sample), Tx3gRefusal> {
+pub(crate) fn read_both<'a>(entry: &'a [u8], sample: &[u8]) -> Result<(Entry<'a>, Sample), Fault> {
     let entry = read_entry(entry).map_err(fault(Who::Entry))?;
-    let sample = read_sample(&entry.fonts, sample).map_err(fault(Who::Sample))?;
+    let sample = read_content(&entry.fonts, sample).map_err(fault(Who::Sample))?;
     Ok((entry, sample))
 }
 
-/// Judges entry and sample; gives the sample's character count.
-pub fn judge_sample(entry: &[u8], sample: &[u8]) -> Result<usize, Tx3gRefusal> {
-    read_both(entry, sample).map(|(_, read)| read.characters)
+/// Judges entry and sample, and reads the sample.
+pub fn read_sample(entry: &[u8], sample: &[u8]) -> Result<Sample, Fault> {
+    read_both(entry, sample).map(|(_, read)| read)
 }
 
 /// The twelve bytes of the style of character `k`.
-pub fn style(entry: &[u8], sample: &[u8], k: usize) -> Result<[u8; STYLE], Tx3gRefusal> {
+pub fn style(entry: &[u8], sample: &[u8], k: usize) -> Result<[u8; STYLE], Fault> {
     let (entry, read) = read_both(entry, sample)?;
     ensure(k < read.characters, BAD_RANGE, 0).map_err(fault(Who::Sample))?;
-    let styles = read.styles.of(sample).as_chunks::<STYLE>().0;
+    let styles = read.style_records(sample);
     // The ends never fall, so the first end past k is the only candidate.
     let at = styles.partition_point(|s| usize::from(style_range(s).1) <= k);
     let found = styles
@@ -449,24 +366,28 @@ pub fn style(entry: &[u8], sample: &[u8], k: usize) -> Result<[u8; STYLE], Tx3gR
     Ok(found.copied().unwrap_or_else(|| entry.style()))
 }
 
-/// The eight bytes of a text box and where they stand.
+/// The eight bytes of a text box, where they stand, and its sides.
 #[derive(Clone, Copy, Debug, PartialEq, Eq)]
 pub struct TextBox<'a> {
     pub who: Who,
     pub offset: usize,
     pub bytes: &'a [u8],
+    /// Top, left, bottom, right.
+    pub sides: [i16; 4],
 }
 
 /// The text box in force.
-pub fn text_box<'a>(entry: &'a [u8], sample: &'a [u8]) -> Result<TextBox<'a>, Tx3gRefusal> {
+pub fn text_box<'a>(entry: &'a [u8], sample: &'a [u8]) -> Result<TextBox<'a>, Fault> {
     let (_, read) = read_both(entry, sample)?;
     let (who, whole, offset) = match read.text_box {
         Some(sides) => (Who::Sample, sample, sides.start),
         None => (Who::Entry, entry, ENTRY_TEXT_BOX),
     };
+    let bytes = &whole[offset..offset + TEXT_BOX];
     Ok(TextBox {
         who,
         offset,
-        bytes: &whole[offset..offset + TEXT_BOX],
+        bytes,
+        sides: sides(bytes),
     })
 }

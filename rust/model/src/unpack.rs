@@ -6,7 +6,7 @@ use crate::time::{is_scale, milliseconds, tick, MOST_MS, MOST_TICK};
 use crate::track::{judge_track, samples};
 use crate::{ensure, refuse, wvtt, Refusal};
 
-/// What unpacking wrote, and the timeline.
+/// What unpacking wrote, or what it needs, and the timeline.
 #[derive(Clone, Copy, Debug, PartialEq, Eq)]
 pub struct Unpacked {
     pub record_bytes: usize,
@@ -23,23 +23,36 @@ pub fn unpack(
     records: &mut [u8],
     pool: &mut [u8],
 ) -> Result<Unpacked, Refusal> {
+    let (joined, unpacked) = join(scale, table, sample_bytes)?;
+    ensure(unpacked.record_bytes <= records.len(), NO_ROOM, 0)?;
+    ensure(unpacked.pool_bytes <= pool.len(), NO_ROOM, 1)?;
+    write(scale, &joined.cues, records, pool);
+    Ok(unpacked)
+}
+
+/// What unpacking answers given room for everything.
+pub fn room(scale: u32, table: &[u8], sample_bytes: &[u8]) -> Result<Unpacked, Refusal> {
+    join(scale, table, sample_bytes).map(|(_, unpacked)| unpacked)
+}
+
+/// Joins the cues of a track, and measures what is to be written.
+fn join<'a>(
+    scale: u32,
+    table: &'a [u8],
+    sample_bytes: &'a [u8],
+) -> Result<(Joined<'a>, Unpacked), Refusal> {
     ensure(is_scale(scale), BAD_TIME, 0)?;
     judge_track(table, sample_bytes)?;
     let mut joined = Joined::default();
     for (index, (duration, sample)) in samples(table, sample_bytes).enumerate() {
         joined.add_sample(index, duration, sample)?;
     }
-    let t = judge_times(scale, &joined)?;
-    let record_bytes = joined.cues.len() * RECORD;
-    let pool_bytes = joined.cues.iter().map(|cue| text_len(&cue.texts)).sum();
-    ensure(record_bytes <= records.len(), NO_ROOM, 0)?;
-    ensure(pool_bytes <= pool.len(), NO_ROOM, 1)?;
-    write(scale, &joined.cues, records, pool);
-    Ok(Unpacked {
-        record_bytes,
-        pool_bytes,
-        t,
-    })
+    let unpacked = Unpacked {
+        t: judge_times(scale, &joined)?,
+        record_bytes: joined.cues.len() * RECORD,
+        pool_bytes: joined.cues.iter().map(|cue| text_len(&cue.texts)).sum(),
+    };
+    Ok((joined, unpacked))
 }
 
 /// A cue joined over neighbouring samples.

@@ -1,6 +1,6 @@
 //! WebVTT samples and sample entries.
 
-use crate::boxes::{be32, boxes, boxes_from, BoxAt, Boxes};
+use crate::boxes::{be16, be32, boxes, boxes_from, BoxAt, Boxes, HEADER};
 use crate::list::Texts;
 use crate::number::*;
 use crate::{ensure, ensure_text, refuse, text, Refusal, Span};
@@ -82,22 +82,38 @@ impl Iterator for Cues<'_> {
             .by_ref()
             .map_while(Result::ok)
             .find(|found| &found.kind == b"vttc")
-            .map(|found| read_cue(sample, found))
+            .and_then(|found| read_cue(sample, found).ok())
     }
 }
 
-fn read_cue(sample: &[u8], cue_box: BoxAt) -> Cue {
+/// The first cue of any bytes from a place on, and where its box ends. Only headers are judged.
+pub fn next_cue(sample: &[u8], from: usize) -> Result<Option<(Cue, usize)>, Refusal> {
+    for found in boxes_from(sample, from) {
+        let found = found?;
+        if &found.kind == b"vttc" {
+            return Ok(Some((read_cue(sample, found)?, found.body.end)));
+        }
+    }
+    Ok(None)
+}
+
+/// A cue by the last of its boxes of each kind. A `vsid` of another length gives no ID.
+fn read_cue(sample: &[u8], cue_box: BoxAt) -> Result<Cue, Refusal> {
     let mut cue = Cue::default();
-    for inner in boxes(sample, cue_box.body).map_while(Result::ok) {
+    for inner in boxes(sample, cue_box.body) {
+        let inner = inner?;
         match &inner.kind {
-            b"vsid" => cue.id = Some(be32(sample, inner.body.start)),
+            b"vsid" => {
+                let whole = inner.body.len() == 4;
+                cue.id = whole.then(|| be32(sample, inner.body.start));
+            }
             b"iden" => cue.identifier = inner.body,
             b"sttg" => cue.settings = inner.body,
             b"payl" => cue.payload = inner.body,
             _ => {}
         }
     }
-    cue
+    Ok(cue)
 }
 
 /// The kinds a `vttc` holds at most once; the payload is the last.
@@ -138,9 +154,10 @@ fn judge_source_id(body: &[u8], place: usize) -> Result<(), Refusal> {
     ensure(be32(body, 0) < ID_LIMIT, BAD_VALUE, place)
 }
 
-/// The texts of a good `wvtt` entry.
+/// A good `wvtt` entry.
 #[derive(Clone, Copy, Debug, PartialEq, Eq)]
 pub struct Entry {
+    pub data_reference_index: u16,
     pub configuration: Span,
     pub label: Option<Span>,
 }
@@ -165,6 +182,7 @@ pub fn read_entry(entry: &[u8]) -> Result<Entry, Refusal> {
     }
     match configuration {
         Some(configuration) => Ok(Entry {
+            data_reference_index: be16(entry, 14),
             configuration,
             label,
         }),
@@ -175,6 +193,38 @@ pub fn read_entry(entry: &[u8]) -> Result<Entry, Refusal> {
 /// Judges a `wvtt` sample entry.
 pub fn judge_entry(entry: &[u8]) -> Result<(), Refusal> {
     read_entry(entry).map(drop)
+}
+
+/// The length of an entry with these texts.
+pub fn entry_room(configuration: &[u8], label: Option<&[u8]>) -> Result<usize, Refusal> {
+    let label_box = label.map_or(0, |label| HEADER + label.len());
+    let size = ENTRY_FIXED + HEADER + configuration.len() + label_box;
+    ensure(u32::try_from(size).is_ok(), PAST_LIMIT, 0)?;
+    ensure_text(text::configuration_fault(configuration), 0)?;
+    ensure_text(label.and_then(text::label_fault), 1)?;
+    Ok(size)
+}
+
+/// Writes an entry and gives its length.
+pub fn write_entry(
+    configuration: &[u8],
+    label: Option<&[u8]>,
+    data_reference_index: u16,
+    out: &mut [u8],
+) -> Result<usize, Refusal> {
+    let size = entry_room(configuration, label)?;
+    ensure(size <= out.len(), NO_ROOM, 0)?;
+    let fixed = [&[0; 6], &data_reference_index.to_be_bytes()[..]].concat();
+    let configuration = box_of(b"vttC", configuration);
+    let label = label.map_or(Vec::new(), |label| box_of(b"vlab", label));
+    let entry = box_of(b"wvtt", &[fixed, configuration, label].concat());
+    out[..size].copy_from_slice(&entry);
+    Ok(size)
+}
+
+fn box_of(kind: &[u8; 4], body: &[u8]) -> Vec<u8> {
+    let size = (HEADER + body.len()) as u32;
+    [&size.to_be_bytes(), &kind[..], body].concat()
 }
 
 /// Size and type of a sample entry with `fixed` bytes before its boxes.

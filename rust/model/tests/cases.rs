@@ -4,14 +4,15 @@ use captions_model::check::check;
 use captions_model::list::{judge_list, Record};
 use captions_model::pack::pack;
 use captions_model::program::answer;
+use captions_model::runs::{next_run, runs, Run, RunAt};
 use captions_model::text::{
     characters, configuration_fault, identifier_fault, label_fault, payload_fault, utf8_fault,
 };
 use captions_model::track::{judge_track, samples, table_records};
 use captions_model::tx3g;
 use captions_model::unpack::unpack;
-use captions_model::wvtt::{cues, judge_entry, judge_sample};
-use captions_model::Refusal;
+use captions_model::wvtt::{cues, entry_room, judge_entry, judge_sample, read_entry, write_entry};
+use captions_model::{Fault, Refusal, Span, Who};
 
 /// Records with empty texts: ID, start, end.
 fn list(cues: &[(u32, u32, u32)]) -> Vec<u8> {
@@ -32,6 +33,14 @@ fn packed(scale: u32, t: u32, list: &[u8], pool: &[u8]) -> (Vec<u8>, Vec<u8>) {
     table.truncate(packed.table_bytes);
     samples.truncate(packed.sample_bytes);
     (table, samples)
+}
+
+/// The check's refusal of the track.
+fn in_track(refusal: Refusal) -> Result<(), Fault> {
+    Err(Fault {
+        who: Who::Track,
+        refusal,
+    })
 }
 
 fn durations(table: &[u8]) -> Vec<u32> {
@@ -272,7 +281,7 @@ fn a_bad_text_has_its_place_and_its_offset() {
     let refused = Refusal::bad_text(1, 2);
     assert_eq!(judge_track(table, &bytes), Err(refused));
     assert_eq!(unpacked(1000, table, &bytes), Err(refused));
-    assert_eq!(check(1000, 2, &[], &[], table, &bytes), Err(refused));
+    assert_eq!(check(1000, 2, &[], &[], table, &bytes), in_track(refused));
     let entry = b"\0\0\0\x1Ewvtt\0\0\0\0\0\0\0\x01\0\0\0\x0EvttCWEBVTX";
     assert_eq!(judge_entry(entry), Err(Refusal::bad_text(16, 5)));
 }
@@ -288,17 +297,16 @@ fn tx3g_entry() -> Vec<u8> {
 #[test]
 fn a_bad_tx3g_text_counts_from_its_first_byte() {
     let entry = tx3g_entry();
-    let refused = tx3g::Tx3gRefusal {
-        who: tx3g::Who::Sample,
-        number: 6,
-        place: 0,
-        offset: 4,
+    let refused = Fault {
+        who: Who::Sample,
+        refusal: Refusal::bad_text(0, 4),
     };
     let sample = b"\0\x06\xFE\xFF\xD8\x3D\0A";
-    assert_eq!(tx3g::judge_sample(&entry, sample), Err(refused));
+    assert_eq!(tx3g::read_sample(&entry, sample), Err(refused));
     assert_eq!(tx3g::style(&entry, sample, 0), Err(refused));
     assert_eq!(tx3g::text_box(&entry, sample), Err(refused));
-    assert_eq!(tx3g::judge_sample(&entry, b"\0\x02Hi"), Ok(2));
+    let read = tx3g::read_sample(&entry, b"\0\x02Hi");
+    assert_eq!(read.map(|sample| sample.characters), Ok(2));
 }
 
 #[test]
@@ -355,7 +363,7 @@ fn ids_after_an_empty_sample_are_not_joined() {
     assert_eq!(judge_sample(cue), Ok(()));
     assert_eq!(unpacked(1000, &table, &bytes), Err(Refusal::new(13, 2)));
     let list = list(&[(7, 0, 3)]);
-    let refused = Err(Refusal::new(16, 1));
+    let refused = in_track(Refusal::new(16, 1));
     assert_eq!(check(1000, 3, &list, &[], &table, &bytes), refused);
 }
 
@@ -367,11 +375,133 @@ fn a_sample_over_a_cut_differs() {
     let mut longer = table.clone();
     longer[3] = 3;
     longer[11] = 1;
-    let refused = Err(Refusal::new(16, 0));
+    let refused = in_track(Refusal::new(16, 0));
     assert_eq!(check(1000, 3, &list, &[], &longer, &bytes), refused);
-    let refused = Err(Refusal::new(16, 1));
+    let refused = in_track(Refusal::new(16, 1));
     assert_eq!(
         check(1000, 3, &list, &[], &table[..8], &bytes[..28]),
         refused
     );
+}
+
+#[test]
+fn the_check_says_who_is_at_fault() {
+    let list = list(&[(7, 0, 2)]);
+    let (table, bytes) = packed(1000, 3, &list, &[]);
+    let who = |t, table: &[u8], bytes: &[u8]| {
+        let fault = check(1000, t, &list, &[], table, bytes);
+        fault.expect_err("it is refused").who
+    };
+    assert_eq!(who(1, &table, &bytes), Who::List);
+    assert_eq!(who(1, &table[1..], &bytes), Who::List);
+    assert_eq!(who(3, &table[1..], &bytes), Who::Track);
+    assert_eq!(who(4, &table, &bytes), Who::Track);
+}
+
+#[test]
+fn rooms_are_what_is_written() {
+    let list = list(&[(7, 0, 2), (8, 1, 3)]);
+    let (table, bytes) = packed(1000, 4, &list, &[]);
+    let room = captions_model::pack::room(1000, 4, &list, &[]).expect("it packs");
+    assert_eq!(room.samples, 4);
+    assert_eq!(
+        (room.table_bytes, room.sample_bytes),
+        (table.len(), bytes.len())
+    );
+    let room = captions_model::unpack::room(1000, &table, &bytes).expect("it unpacks");
+    assert_eq!((room.record_bytes, room.pool_bytes, room.t), (48, 0, 4));
+    let refused = captions_model::unpack::room(0, &table, &bytes);
+    assert_eq!(refused, Err(Refusal::new(10, 0)));
+}
+
+#[test]
+fn an_entry_is_written_as_it_is_read() {
+    let mut out = [0xA5; 50];
+    let size = write_entry(b"WEBVTT", Some(b"la"), 0x0102, &mut out).expect("it is good");
+    let entry = b"\0\0\0\x28wvtt\0\0\0\0\0\0\x01\x02\0\0\0\x0EvttCWEBVTT\0\0\0\x0Avlabla";
+    assert_eq!(&out[..size], entry);
+    assert!(out[size..].iter().all(|&b| b == 0xA5));
+    let read = read_entry(entry).expect("it is good");
+    assert_eq!(read.data_reference_index, 0x0102);
+    assert_eq!(read.configuration.of(entry), b"WEBVTT");
+    assert_eq!(read.label.map(|label| label.of(entry)), Some(&b"la"[..]));
+    assert_eq!(entry_room(b"WEBVTT", None), Ok(30));
+    assert_eq!(entry_room(b"WEBVTT", Some(b"")), Ok(38));
+}
+
+#[test]
+fn an_entry_is_refused_in_order() {
+    let write = |configuration: &[u8], label: &[u8], room: usize| {
+        let mut out = vec![0; room];
+        write_entry(configuration, Some(label), 1, &mut out)
+    };
+    assert_eq!(write(b"WEB\n", b"\xFF", 0), Err(Refusal::bad_text(0, 3)));
+    assert_eq!(write(b"WEBVTT", b"a\n", 0), Err(Refusal::bad_text(1, 2)));
+    assert_eq!(write(b"WEBVTT", b"a", 38), Err(Refusal::new(15, 0)));
+    assert_eq!(write(b"WEBVTT", b"a", 39), Ok(39));
+}
+
+#[test]
+fn fonts_stand_one_after_the_other() {
+    let mut entry = tx3g_entry();
+    entry.truncate(46);
+    entry.extend(b"\0\0\0\x15ftab\0\x02\0\x01\x03abc\x01\x02\x02de");
+    entry[3] = entry.len() as u8;
+    let fields = tx3g::read_entry(&entry).expect("it is good").fields();
+    assert_eq!((fields.fonts, fields.fonts_from), (2, 56));
+    let fonts = tx3g::fonts(&entry).expect("it is good");
+    let fonts: Vec<_> = fonts.iter().map(|f| (f.id, f.name.of(&entry))).collect();
+    assert_eq!(fonts, [(1, &b"abc"[..]), (0x0102, b"de")]);
+    assert_eq!(tx3g::font_at(&entry, entry.len() - 2), None);
+    assert_eq!(tx3g::font_at(&entry, usize::MAX), None);
+}
+
+/// A sample of six characters with these styles, all of font 1 and of the sizes 1, 2, …
+fn styled(ranges: &[(u8, u8)]) -> Vec<u8> {
+    let mut styles = vec![0, ranges.len() as u8];
+    for (index, &(start, end)) in ranges.iter().enumerate() {
+        styles.extend([0, start, 0, end, 0, 1, 0, index as u8 + 1, 0, 0, 0, 0]);
+    }
+    let size = [0, 0, 0, 8 + styles.len() as u8];
+    [b"\0\x06abcdef", &size[..], b"styl", &styles].concat()
+}
+
+#[test]
+fn runs_lie_end_to_end() {
+    let found = |ranges: &[(u8, u8)]| -> Vec<(usize, usize, u8)> {
+        let sample = styled(ranges);
+        let all = runs(&tx3g_entry(), &sample).expect("it is good");
+        let run = |r: Run| (r.from, r.end, r.look[3]);
+        all.map(run).collect()
+    };
+    assert_eq!(found(&[]), [(0, 6, 0)]);
+    assert_eq!(found(&[(0, 6)]), [(0, 6, 1)]);
+    assert_eq!(found(&[(2, 2), (4, 4)]), [(0, 6, 0)]);
+    assert_eq!(
+        found(&[(0, 0), (1, 2), (2, 2), (2, 4), (4, 4)]),
+        [(0, 1, 0), (1, 2, 2), (2, 4, 4), (4, 6, 0)]
+    );
+    assert_eq!(runs(&tx3g_entry(), b"\0\0").map(Iterator::count), Ok(0));
+}
+
+#[test]
+fn a_run_of_any_arguments() {
+    let sample = styled(&[(1, 3), (5, 4), (5, 9)]);
+    let from = 18;
+    let run = |styles, from, k, characters| {
+        next_run(&sample, styles, from, k, characters).map(|run| {
+            let RunAt { range, look, .. } = run;
+            (range.start, range.end, look.map(|l| l[3]), run.styles)
+        })
+    };
+    assert_eq!(run(3, from, 0, 6), Some((0, 1, None, 3)));
+    assert_eq!(run(3, from, 2, 6), Some((2, 3, Some(1), 2)));
+    assert_eq!(run(3, from, 3, 6), Some((3, 5, None, 1)));
+    assert_eq!(run(3, from, 5, 6), Some((5, 6, Some(3), 0)));
+    assert_eq!(run(3, from, 9, 20), Some((9, 20, None, 0)));
+    assert_eq!(run(3, from, 6, 6), None);
+    assert_eq!(run(usize::MAX, usize::MAX, 0, 6), Some((0, 6, None, 0)));
+    let behind = next_run(&sample, 9, from, 1, 6).expect("a run");
+    assert_eq!((behind.styles, behind.styles_from), (8, from + 12));
+    assert_eq!(behind.range, Span { start: 1, end: 3 });
 }

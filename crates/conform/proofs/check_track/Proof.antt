@@ -1,24 +1,20 @@
-use Rattle.conform.specs.Conformance.{conformance}
+use Rattle.conform.specs.Conformance.{checked, ofTrack}
+use Rattle.conform.proofs.Blame.{list-at-fault}
 use Rattle.cues.proofs.Sound.{fine-sound}
-use mathlib.Core.Path.{_∙_, sym}
+use mathlib.Core.Path.{_∙_, ap, sym}
 use borrow.Author.Needs.{needs}
 use Rattle.conform.proofs.check_track.Statement.{statement}
 use Rattle.conform.proofs.check_track.Tie as tie
 
+check-beside-requires : tie.Need-check-beside-requires
+check-beside-requires c κs = fine-sound _ _ _ _ (sym (c .before .before .judge-list .ensures) ∙ c .enum-told .given .1)
+
 returns : tie.Need-returns
-unfolding conformance
-returns c = simp (← c .before .before .judge-list .ensures, c .enum-told2 .given .1)
+unfolding checked
+returns c = c .of-track .ensures ∙ ap ofTrack (c .before .check-beside .ensures) ∙ rw (← c .before .before .before .before .judge-list .ensures, c .before .before .enum-told .given .1)
 
 returns-2 : tie.Need-returns-2
-unfolding conformance
-returns-2 c = simp (← c .before .before .before .before .before .judge-list .ensures, c .before .before .before .enum-told .given .1, ← c .before .before .judge-track .ensures, c .enum-told4 .given .1)
-
-check-samples-requires : tie.Need-check-samples-requires
-check-samples-requires c κs = (fine-sound _ _ _ _ (sym (c .before .before .before .before .before .judge-list .ensures) ∙ c .before .before .before .enum-told .given .1), sym (c .before .before .judge-track .ensures) ∙ c .enum-told3 .given .1)
-
-returns-3 : tie.Need-returns-3
-unfolding conformance
-returns-3 c = simp (← c .before .before .before .before .before .before .judge-list .ensures, c .before .before .before .before .enum-told .given .1, ← c .before .before .before .judge-track .ensures, c .before .enum-told3 .given .1, ← c .check-samples .ensures)
+returns-2 c = sym (list-at-fault _ _ _ _ _ _ _ (sym (c .before .before .before .judge-list .ensures) ∙ c .before .v .given .1))
 
 pub check-track-spec : {M : Type 1} → statement M
 check-track-spec =
@@ -27,10 +23,7 @@ check-track-spec =
     (λ c κs. search needs)
     (λ c. search needs)
     (λ c. search needs)
-    returns
+    check-beside-requires
     (λ c κs. search needs)
-    (λ c. search needs)
-    (λ c. search needs)
-    returns-2
-    check-samples-requires
-    returns-3)
+    returns
+    returns-2)

@@ -5,14 +5,8 @@ use borrow.Author.Needs.{needs}
 use Rattle.sample_table.proofs.main.Statement.{statement}
 use Rattle.sample_table.proofs.main.Tie as tie
 
-slice-aggregate-put-answer : tie.Need-slice-aggregate-put-answer
-slice-aggregate-put-answer c = let f = c .before .before .before .before .before .before .before .read-file in sym (length-take-le (f .result .n) (f .last .1 .0) (f .ensures))
-
-slice-aggregate-put-answer-2 : tie.Need-slice-aggregate-put-answer-2
-slice-aggregate-put-answer-2 c = let f = c .before .before .before .before .read-file2 in sym (length-take-le (f .result .n) (f .last .1 .0) (f .ensures))
-
 slice-aggregate-write-all : tie.Need-slice-aggregate-write-all
-slice-aggregate-write-all c = let f = c .before .before .put-answer in sym (length-take-le (f .result) (f .last .1 .1 .1 .1 .0) (f .ensures .2))
+slice-aggregate-write-all c = let f = c .before .before .put-output in sym (length-take-le (f .result) (f .last .1 .1 .1 .1 .1 .0) (f .ensures .2))
 
 pub main-spec : {M : Type 1} → statement M
 main-spec =
@@ -26,9 +20,7 @@ main-spec =
     (λ c. search needs)
     (λ c κs. search needs)
     (λ c. search needs)
-    slice-aggregate-put-answer
     (λ c. search needs)
-    slice-aggregate-put-answer-2
     (λ c. search needs)
     (λ c κs. search needs)
     (λ c. search needs)

@@ -6,19 +6,19 @@ use Rattle.tx3g_box.proofs.find_box.Statement.{statement}
 use Rattle.tx3g_box.proofs.find_box.Tie as tie
 
 find-within-requires : tie.Need-find-within-requires
-find-within-requires c κs = sym (c .before .before .before .read-sample .ensures) ∙ c .before .r .given .1
+find-within-requires c κs = sym (c .before .before .before .read-sample .ensures) ∙ c .before .r3 .given .1
 
 returns : tie.Need-returns
 unfolding spotOf
-returns c = rw (← c .before .before .read-sample .ensures, c .enum-told .given .1)
+returns c = rw (← c .before .before .before .read-sample .ensures, c .before .r .given .1)
 
 returns-2 : tie.Need-returns-2
 unfolding spotOf
-returns-2 c = rw (← c .before .before .read-sample .ensures, c .enum-told2 .given .1)
+returns-2 c = rw (← c .before .before .before .read-sample .ensures, c .before .r2 .given .1)
 
 returns-3 : tie.Need-returns-3
 unfolding spotOf
-returns-3 c = rw (← c .before .before .before .before .read-sample .ensures, c .before .before .r .given .1) (c .find-within .ensures)
+returns-3 c = rw (← c .before .before .before .before .read-sample .ensures, c .before .before .r3 .given .1) (c .find-within .ensures)
 
 pub find-box-spec : {M : Type 1} → statement M
 find-box-spec =

@@ -14,11 +14,11 @@ returns c = rw (← c .before .before .before .before .text-end .ensures .0, ←
 
 returns-2 : tie.Need-returns-2
 unfolding boxesOf
-returns-2 c = rw (← c .before .before .before .text-end .ensures .0, ← c .before .before .find-body .ensures, c .enum-told .given .1)
+returns-2 c = rw (← c .before .before .before .before .text-end .ensures .0, ← c .before .before .before .find-body .ensures, c .before .t2 .given .1)
 
 returns-3 : tie.Need-returns-3
 unfolding boxesOf
-returns-3 c = rw (← c .before .before .before .text-end .ensures .0, ← c .before .before .find-body .ensures, c .enum-told2 .given .1)
+returns-3 c = rw (← c .before .before .before .text-end .ensures .0, ← c .before .before .find-body .ensures, c .enum-told .given .1)
 
 pub find-within-spec : {M : Type 1} → statement M
 find-within-spec =

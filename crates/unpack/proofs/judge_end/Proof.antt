@@ -1,5 +1,4 @@
 use mathlib.Core.Path.{sym, _∙_}
-use borrow.Author.Tests.{le-ltb, lt-ltb}
 use Rattle.verdict.specs.Judgement.{each}
 use Rattle.verdict.proofs.Judgement.{then-refused}
 use Rattle.unpack.specs.Rows.{endOf, rowTimes}
@@ -17,15 +16,7 @@ returns-2 c = simp (c .refused .ensures, ← c .before .before .before .before .
 
 returns-3 : tie.Need-returns-3
 unfolding endOf
-returns-3 c = simp (c .refused2 .ensures, ← c .before .before .before .before .before .before .judge-times .ensures, c .before .before .before .before .enum-told .given .1, ← c .before .before .before .total-allowed .ensures, c .before .before .if1 .left, lt-ltb _ _ (c .before .if2 .taken))
-
-returns-4 : tie.Need-returns-4
-unfolding endOf
-returns-4 c = simp (c .refused3 .ensures, ← c .before .before .before .before .before .before .before .before .judge-times .ensures, c .before .before .before .before .before .before .enum-told .given .1, ← c .before .before .before .before .before .total-allowed .ensures, c .before .before .before .before .if1 .left, le-ltb _ _ (c .before .before .before .if2 .left), ← c .before .before .pool-size .ensures .0, lt-ltb _ _ (c .before .if3 .taken))
-
-returns-5 : tie.Need-returns-5
-unfolding endOf
-returns-5 c = simp (← c .before .before .before .before .before .before .before .judge-times .ensures, c .before .before .before .before .before .enum-told .given .1, ← c .before .before .before .before .total-allowed .ensures, c .before .before .before .if1 .left, le-ltb _ _ (c .before .before .if2 .left), ← c .before .pool-size .ensures .0, le-ltb _ _ (c .if3 .left))
+returns-3 c = simp (← c .before .before .before .before .judge-times .ensures, c .before .before .enum-told .given .1, ← c .before .total-allowed .ensures, c .if1 .left)
 
 pub judge-end-spec : {M : Type 1} → statement M
 judge-end-spec =
@@ -38,10 +29,4 @@ judge-end-spec =
     (λ c κs. search needs)
     (λ c κs. search needs)
     returns-2
-    (λ c. search needs)
-    (λ c κs. search needs)
-    returns-3
-    (λ c κs. search needs)
-    (λ c κs. search needs)
-    returns-4
-    returns-5)
+    returns-3)

@@ -6,6 +6,7 @@ use super::boxes::{box_of, other_box};
 use super::damage::damage_boxes;
 use super::text::tx3g_text;
 use super::wvtt::mend_size;
+use crate::library::RunInput;
 use crate::random::Random;
 
 const FONTS: [u16; 6] = [0, 1, 2, 5, 256, 0xFFFF];
@@ -196,6 +197,49 @@ fn styles(random: &mut Random, count: usize, fonts: &[u16]) -> Vec<u8> {
         body.extend(random.bytes(6));
     }
     body
+}
+
+/// Bytes with styles in any order, and numbers that mostly fit them.
+pub fn run_input(random: &mut Random) -> (Vec<u8>, RunInput) {
+    let (lead, styles) = (random.below(6), random.below(6));
+    let sample = loose_styles(random, lead, styles);
+    let mut input = RunInput {
+        styles,
+        styles_from: lead,
+        k: random.below(3),
+        characters: random.below(12),
+    };
+    let any = usize::MAX - random.below(16);
+    match random.below(12) {
+        0 => input.styles = random.pick(&[0, 1, styles + 1, usize::MAX]),
+        1 => input.styles_from = random.below(sample.len() + 14),
+        2 => input.styles_from = any,
+        3 => input.k = random.below(14),
+        4 => input.k = any,
+        5 => input.characters = any,
+        6 => (input.styles, input.styles_from) = (any, any),
+        _ => {}
+    }
+    (sample, input)
+}
+
+/// So many styles after some bytes, in order or not, sometimes cut short.
+fn loose_styles(random: &mut Random, lead: usize, styles: usize) -> Vec<u8> {
+    let mut cuts: Vec<u16> = (0..2 * styles).map(|_| random.below(12) as u16).collect();
+    if random.percent(70) {
+        cuts.sort_unstable();
+    }
+    let mut bytes = random.bytes(lead);
+    for cut in cuts.chunks_exact(2) {
+        bytes.extend(cut[0].to_be_bytes());
+        bytes.extend(cut[1].to_be_bytes());
+        bytes.extend(random.bytes(8));
+    }
+    if random.percent(20) {
+        let len = random.below(bytes.len() + 1);
+        bytes.truncate(len);
+    }
+    bytes
 }
 
 /// A count, rarely another one.

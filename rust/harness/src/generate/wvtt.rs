@@ -121,6 +121,24 @@ pub fn wvtt_entry(random: &mut Random) -> Vec<u8> {
     entry
 }
 
+/// What a `wvtt` entry is written from.
+pub struct EntryParts {
+    pub configuration: Vec<u8>,
+    pub label: Option<Vec<u8>>,
+    pub index: u16,
+}
+
+/// The parts of an entry, good or bad.
+pub fn entry_parts(random: &mut Random) -> EntryParts {
+    EntryParts {
+        configuration: configuration(random),
+        label: random
+            .percent(70)
+            .then(|| maybe_bad(random, 12, identifier)),
+        index: random.next() as u16,
+    }
+}
+
 /// Sets the entry's size to its length again, mostly.
 pub fn mend_size(random: &mut Random, entry: &mut [u8]) {
     let size = (entry.len() as u32).to_be_bytes();

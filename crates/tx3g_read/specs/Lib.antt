@@ -1,0 +1,3 @@
+pub mod Entry
+pub mod Sample
+pub mod Statements

@@ -1,9 +1,0 @@
-use borrow.Author.Needs.{needs}
-use Rattle.unpack.proofs.refusal_of.Statement.{statement}
-use Rattle.unpack.proofs.refusal_of.Tie as tie
-
-returns-2 : tie.Need-returns-2
-returns-2 c = rw (c .before .v .given .1)
-
-pub refusal-of-spec : {M : Type 1} → statement M
-refusal-of-spec = tie.close (tie.spec (λ c. search needs) (λ c. search needs) (λ c. search needs) returns-2)
