@@ -32,7 +32,7 @@ use Rattle.pack.proofs.Answers.{packs, done-means}
 use Rattle.pack.proofs.Track.{packed-is-right, samples-most, reads-back, packed-readable}
 use Rattle.conform.specs.declared.Checked.{Checked}
 use Rattle.conform.specs.declared.Checked.the-variants.{Passed, BadList, BadTrack}
-use Rattle.conform.specs.Conformance.{conformance, ofTrack, checked, verdictOf}
+use Rattle.conform.specs.Conformance.{conformance, ofTrack, verdictOf}
 use Rattle.conform.proofs.Blame.{verdict-is, passes, track-at-fault, list-at-fault}
 use Rattle.conform.proofs.Exactly.{answers-exactly}
 use Rattle.demands.specs.Calls.{PackCall, CheckCall}

@@ -7,9 +7,8 @@ use lib.IntN.{ℤ, pos, negsuc, natAbs}
 use lib.ListN.{take}
 use Rattle.base.specs.Choice.{pick}
 use Rattle.base.proofs.Choice.{by-test, true-false}
-use Rattle.input.specs.Line.{lineOf}
 use Rattle.input.specs.Reading.{fed, lineAt}
-use Rattle.input.specs.Reads.{isWrong, none, chunkBy, chunkOf, Read, ifLast, lineBy, bytesOf, bytesBy, Moves, Moving, ReadToTheEnd, ReadInVain}
+use Rattle.input.specs.Reads.{isWrong, chunkBy, chunkOf, Read, ifLast, lineBy, bytesOf, bytesBy, Moves, Moving, ReadToTheEnd, ReadInVain}
 use Rattle.input.proofs.Chunks.{fed-append}
 use Rattle.input.proofs.Fed.{fed-wrong, fed-line}
 use Rattle.input.specs.declared.Reading.{Reading}

@@ -23,7 +23,6 @@ use Rattle.input.specs.Reading.{fed}
 use Rattle.input.specs.Reads.{isWrong, none, chunkBy, chunkOf}
 use Rattle.input.specs.declared.Reading.{Reading}
 use Rattle.input.specs.declared.Reading.the-variants.{Wrong}
-use Rattle.input.specs.declared.Chunk.{Chunk}
 
 pub not-failed : (z : ℤ) → ltZ z (pos 0) ≡ false → T (nonNeg z)
 not-failed (pos k) h = tt

@@ -14,7 +14,7 @@ use borrow.Author.Tests.{ltb-true, ltb-false, leb-true, leb-false, le-leb, lt-le
 use Rattle.base.specs.Choice.{pick, both}
 use Rattle.fields.specs.BigEndian.{be}
 use Rattle.signed.specs.declared.Edges.{Edges}
-use Rattle.signed.specs.Signed.{signed16, signed8, justified, edgesAt}
+use Rattle.signed.specs.Signed.{signed, signed16, signed8, justified, edgesAt}
 use Rattle.signed.specs.Rank.{shift16, OrderIs}
 
 -- two tests with equal answers
@@ -30,7 +30,7 @@ same-test a b c d f g = go (leb a b) refl
         go₂ false q l = leb-false c d q
 
 pub order-is : OrderIs
-unfolding signed16 shift16
+unfolding signed shift16
 order-is a b ha hb = go (ltb a 32768) (ltb b 32768) refl refl
   where
     go : (s t : Bool) → ltb a 32768 ≡ s → ltb b 32768 ≡ t
@@ -42,11 +42,11 @@ order-is a b ha hb = go (ltb a 32768) (ltb b 32768) refl refl
 
 -- a byte that is -1, 0 or 1
 pub just-minus : (v : ℕ) → v ≡ 255 → true ≡ justified v
-unfolding justified signed8
+unfolding justified signed
 just-minus v e = rw e
 
 pub just-other : (v : ℕ) → v < 256 → (v ≡ 255 → ⊥) → ltb v 2 ≡ justified v
-unfolding justified signed8
+unfolding justified signed
 just-other v h n = go (ltb v 128) refl
   where
     go : (t : Bool) → ltb v 128 ≡ t → ltb v 2 ≡ both (leZ (negsuc 0) (pick t (pos v) (negsuc (255 - v)))) (leZ (pick t (pos v) (negsuc (255 - v))) (pos 1))
@@ -59,49 +59,35 @@ just-other v h n = go (ltb v 128) refl
         let l = ltb-false v 128 p in
         rw (lt-leb (255 - v) 0 (omega arith), le-ltb v 2 (omega arith))
 
--- the numbers that the code makes
-pub small16 : (v : ℕ) → v < 32768 → toZ w32 v ≡ signed16 v
-unfolding signed16
-small16 v h = rw (lt-ltb v 32768 h, lt-ltb v 2147483648 (omega arith))
+-- the numbers that the code makes, of 16 bits and fewer
+module _ (half v : ℕ) (few : half ≤ 32768) where
+  pub small-is : v < half → toZ w32 v ≡ signed half v
+  unfolding signed
+  small-is h = rw (lt-ltb v half h, lt-ltb v 2147483648 (omega arith))
 
-pub large16 : (v : ℕ) → v < 65536 → 32768 ≤ v → toZ w32 v -ℤ pos 65536 ≡ signed16 v
-unfolding signed16
-large16 v h k =
-    let e : 65536 - suc v ≡ 65535 - v = omega arith in
-    rw (le-ltb v 32768 k, lt-ltb v 2147483648 (omega arith), lt-ltb v 65536 h, e)
+  pub large-is : (top : ℕ) → half + half ≡ suc top → v < suc top → half ≤ v → toZ w32 v -ℤ pos (suc top) ≡ signed half v
+  unfolding signed
+  large-is top q h k =
+      let e : suc top - suc v ≡ half + half - 1 - v = omega arith in
+      rw (le-ltb v half k, lt-ltb v 2147483648 (omega arith), lt-ltb v (suc top) h, e)
 
-pub fits16 : (v : ℕ) → v < 65536 → SFits w32 (signed16 v)
-unfolding signed16
-fits16 v h = go (ltb v 32768)
-  where
-    go : (t : Bool) → SFits w32 (pick t (pos v) (negsuc (65535 - v)))
-    go true = record { sfits = omega arith }
-    go false = record { sfits = omega arith }
+  pub signed-fits : v < half + half → SFits w32 (signed half v)
+  unfolding signed
+  signed-fits h = go (ltb v half)
+    where
+      go : (t : Bool) → SFits w32 (pick t (pos v) (negsuc (half + half - 1 - v)))
+      go true = record { sfits = omega arith }
+      go false = record { sfits = omega arith }
 
-pub small8 : (v : ℕ) → v < 128 → toZ w32 v ≡ signed8 v
-unfolding signed8
-small8 v h = rw (lt-ltb v 128 h, lt-ltb v 2147483648 (omega arith))
+  -- a number as it is kept in a field
+  pub kept : (z : ℤ) → z ≡ signed half v → v < half + half → toZ w32 (ofZ w32 z) ≡ signed half v
+  kept z e h = rw e (toZ-ofZ (signed-fits h))
 
-pub large8 : (v : ℕ) → v < 256 → 128 ≤ v → toZ w32 v -ℤ pos 256 ≡ signed8 v
-unfolding signed8
-large8 v h k =
-    let e : 256 - suc v ≡ 255 - v = omega arith in
-    rw (le-ltb v 128 k, lt-ltb v 2147483648 (omega arith), lt-ltb v 256 h, e)
-
-pub fits8 : (v : ℕ) → v < 256 → SFits w32 (signed8 v)
-unfolding signed8
-fits8 v h = go (ltb v 128)
-  where
-    go : (t : Bool) → SFits w32 (pick t (pos v) (negsuc (255 - v)))
-    go true = record { sfits = omega arith }
-    go false = record { sfits = omega arith }
-
--- a number as it is kept in a field
 pub kept16 : (z : ℤ) (v : ℕ) → z ≡ signed16 v → v < 65536 → toZ w32 (ofZ w32 z) ≡ signed16 v
-kept16 z v e h = rw e (toZ-ofZ (fits16 v h))
+kept16 z v e h = kept 32768 v (omega arith) z e h
 
 pub kept8 : (z : ℤ) (v : ℕ) → z ≡ signed8 v → v < 256 → toZ w32 (ofZ w32 z) ≡ signed8 v
-kept8 z v e h = rw e (toZ-ofZ (fits8 v h))
+kept8 z v e h = kept 128 v (omega arith) z e h
 
 pub edges-are : (s : List ℕ) (at : ℕ) (a b c d : ℤ) → a ≡ signed16 (be 2 s at) → b ≡ signed16 (be 2 s (at + 2)) → c ≡ signed16 (be 2 s (at + 4)) → d ≡ signed16 (be 2 s (at + 6))
     → _≡_ {A = Edges} (record { top = a; left = b; bottom = c; right = d }) (edgesAt s at)

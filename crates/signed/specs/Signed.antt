@@ -9,13 +9,16 @@ use Rattle.base.specs.Choice.{pick, both}
 use Rattle.fields.specs.BigEndian.{be}
 use Rattle.signed.specs.declared.Edges.{Edges}
 
--- a number of 16 bits: below 32768 itself, else itself less 65536 (`negsuc n` is -(n + 1))
-unfoldable pub signed16 : ℕ → ℤ
-signed16 v = pick (ltb v 32768) (pos v) (negsuc (65535 - v))
+-- a number in two's complement, `half` of whose values are negative: below half itself, else itself less twice that (`negsuc n` is -(n + 1))
+unfoldable pub signed : ℕ → ℕ → ℤ
+signed half v = pick (ltb v half) (pos v) (negsuc (half + half - 1 - v))
 
--- a number of 8 bits
-unfoldable pub signed8 : ℕ → ℤ
-signed8 v = pick (ltb v 128) (pos v) (negsuc (255 - v))
+-- of 16 bits, and of 8
+abbrev pub signed16 : ℕ → ℤ
+signed16 v = signed 32768 v
+
+abbrev pub signed8 : ℕ → ℤ
+signed8 v = signed 128 v
 
 -- top, left, bottom, right at `at`: top ≤ bottom and left ≤ right
 unfoldable pub ordered : List ℕ → ℕ → Bool
@@ -27,7 +30,6 @@ justified v = both (leZ (negsuc 0) (signed8 v)) (leZ (signed8 v) (pos 1))
 
 -- the four numbers of a text box at `at`
 unfoldable pub edgesAt : List ℕ → ℕ → Edges
-unfolding signed16
 edgesAt s at =
     record {
       top = signed16 (be 2 s at);

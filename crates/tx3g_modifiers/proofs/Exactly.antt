@@ -6,7 +6,7 @@ use mathlib.Core.Bool.{Bool, true, false}
 use native.Mathlib.Omega.{arith}
 use native.Mathlib.Nat.{not-suc-le-zero}
 use lib.ListN.{length}
-use borrow.Author.Tests.{eq-eqb, le-ltb}
+use borrow.Author.Tests.{eq-eqb}
 use Rattle.base.specs.Choice.{pick, keep}
 use Rattle.verdict.specs.declared.Verdict.{Verdict}
 use Rattle.verdict.specs.declared.Verdict.the-variants.{Fine, Refused}
@@ -18,12 +18,11 @@ use Rattle.boxes.proofs.Laws.{step-box, boxes-at}
 use Rattle.tx3g_contents.specs.Kinds.{known}
 use Rattle.tx3g_contents.specs.Contents.{contentEnd}
 use Rattle.tx3g_entry.specs.Entry.{nothingMore, fontsOf}
-use Rattle.tx3g_sample.specs.declared.Reading.the-variants.{Good}
-use Rattle.tx3g_sample.specs.Sample.{textEnd, inSample, modifiersOf, fontsIn, judgeModifiers, readSample}
-use Rattle.tx3g_sample.proofs.Laws.{read-good, text-fine, count-past, box-filled}
+use Rattle.tx3g_sample.specs.Sample.{textEnd, inSample, modifiersOf, fontsIn, judgeModifiers}
+use Rattle.tx3g_sample.proofs.Laws.{read-good, box-filled}
 use Rattle.tx3g_modifiers.specs.declared.Modifier.{Modifier}
 use Rattle.tx3g_modifiers.specs.declared.Held.the-variants.{One, Refused as Broken, End}
-use Rattle.tx3g_modifiers.specs.Modifiers.{boxesFrom, whole, modifierOf, nextModifier, modifiersIn, knownIn}
+use Rattle.tx3g_modifiers.specs.Modifiers.{whole, modifierOf, nextModifier, modifiersIn, knownIn}
 use Rattle.tx3g_modifiers.specs.Terms.{ended}
 use Rattle.tx3g_modifiers.specs.Exactly.{NextMeans, Exactly}
 
@@ -93,13 +92,9 @@ filled-all fonts c s before (box p k b n rest) h =
     same false e q r = rw (whole-unknown s k b n e, e, r)
 
 -- a sample without fault: the modifiers from the end of its text on are its modifier boxes
-from-text : (e s : List ℕ) (n : ℕ) → readSample e s ≡ Good n → boxesFrom s ≡ textEnd s
-unfolding boxesFrom
-from-text e s n h = let w = text-fine s (read-good e s n h .text) in let k = count-past s in rw (le-ltb (length s) 2 (omega arith))
-
 all-known : (e s : List ℕ) (n : ℕ) → judgeModifiers e n s ≡ Fine → modifiersIn s (boxesIn s (textEnd s) (length s)) ≡ knownIn s (boxesIn s (textEnd s) (length s))
 unfolding judgeModifiers modifiersOf
 all-known e s n q = filled-all (fontsIn e (fontsOf e)) n s [] (boxesIn s (textEnd s) (length s)) q
 
 pub exactly : Exactly
-exactly e s n h = rw (from-text e s n h) (all-known e s n (read-good e s n h .modifiers))
+exactly e s n h = all-known e s n (read-good e s n h .modifiers)

@@ -8,7 +8,7 @@ use Rattle.tx3g_sample.specs.declared.Reading.the-variants.{Good}
 use Rattle.tx3g_sample.specs.Sample.{textEnd, readSample}
 use Rattle.tx3g_modifiers.specs.declared.Held.{Held}
 use Rattle.tx3g_modifiers.specs.declared.Held.the-variants.{One, Refused, End}
-use Rattle.tx3g_modifiers.specs.Modifiers.{boxesFrom, nextModifier, modifiersIn, knownIn}
+use Rattle.tx3g_modifiers.specs.Modifiers.{nextModifier, modifiersIn, knownIn}
 
 -- what an answer of `next_modifier` at a place means: the first modifier from there on, and then those from the place after it on; or none
 abbrev pub Means : List ℕ → ℕ → Held → Type 0
@@ -19,6 +19,6 @@ Means s from End = modifiersIn s (boxesIn s from (length s)) ≡ []
 abbrev pub NextMeans : Type 0
 NextMeans = (s : List ℕ) (from : ℕ) (h : Held) → h ≡ nextModifier s (boxesIn s from (length s)) → Means s from h
 
--- the modifiers of a sample without fault are exactly its modifier boxes, from left to right
+-- the modifiers of a sample without fault, from where its text ends, are exactly its modifier boxes, from left to right
 abbrev pub Exactly : Type 0
-Exactly = (e s : List ℕ) (n : ℕ) → readSample e s ≡ Good n → modifiersIn s (boxesIn s (boxesFrom s) (length s)) ≡ knownIn s (boxesIn s (textEnd s) (length s))
+Exactly = (e s : List ℕ) (n : ℕ) → readSample e s ≡ Good n → modifiersIn s (boxesIn s (textEnd s) (length s)) ≡ knownIn s (boxesIn s (textEnd s) (length s))

@@ -2,22 +2,16 @@
 use Prim.Native.Nat.{ℕ, _+_}
 use mathlib.Core.List.{List, []}
 use mathlib.Core.Bool.{Bool}
-use lib.Dec.{ltb, eqb}
-use lib.ListN.{length}
+use lib.Dec.{eqb}
 use Rattle.base.specs.Choice.{pick, both, keep}
 use Rattle.fields.specs.BigEndian.{be}
 use Rattle.boxes.specs.Boxes.{Boxes, clean, broken, box}
 use Rattle.tx3g_contents.specs.Kinds.{styl, hlit, hclr, krok, href, tbox, blnk, twrp, known}
 use Rattle.tx3g_contents.specs.Contents.{alternativeAt, linkEnd, contentEnd}
-use Rattle.tx3g_sample.specs.Sample.{textEnd}
 use Rattle.tx3g_modifiers.specs.declared.Modifier.{Modifier}
 use Rattle.tx3g_modifiers.specs.declared.Modifier.the-variants.{Styles, Highlight, Blink, Colour, Karaoke, Delay, Link, TextBox, Wrap}
 use Rattle.tx3g_modifiers.specs.declared.Held.{Held}
 use Rattle.tx3g_modifiers.specs.declared.Held.the-variants.{One, Refused as Stopped, End}
-
--- where the boxes begin; where the byte count is missing there are none
-unfoldable pub boxesFrom : List ℕ → ℕ
-boxesFrom s = pick (ltb (length s) 2) (length s) (textEnd s)
 
 -- a modifier box that its content fills, as each one is in a sample without fault
 unfoldable pub whole : List ℕ → ℕ → ℕ → ℕ → Bool

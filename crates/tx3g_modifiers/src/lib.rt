@@ -15,7 +15,6 @@ use tx3g_contents::TBOX;
 use tx3g_contents::TWRP;
 use tx3g_contents::is_known;
 use tx3g_contents::judge_content;
-use tx3g_sample::text_end;
 use verdict::Refusal;
 use verdict::Verdict;
 ghost use mathlib.Core.Path.{_≡_};
@@ -23,7 +22,7 @@ ghost use Prim.Native.Nat.{_+_, _≤_};
 ghost use lib.ListN.{length};
 ghost use Rattle.boxes.specs.Boxes.{boxesIn, stoppedBy};
 ghost use Rattle.tx3g_contents.specs.Contents.{linkEnd, contentEnd};
-ghost use Rattle.tx3g_modifiers.specs.Modifiers.{boxesFrom, whole, linkOf, plainOf, modifierOf, nextModifier};
+ghost use Rattle.tx3g_modifiers.specs.Modifiers.{whole, linkOf, plainOf, modifierOf, nextModifier};
 ghost use Rattle.tx3g_modifiers.specs.Terms.{ended};
 
 // Where bytes stand in a sample: from `from` to before `end`.
@@ -82,16 +81,6 @@ pub enum Held {
     One { modifier: Modifier, next: usize },
     Refused(Refusal),
     End,
-}
-
-// Where the modifier boxes begin.
-pub fn skip_text(s: &[u8]) -> usize
-    ensures { λ r. ⌜ r ≡ boxesFrom (now (s .entry)) ⌝ }
-{
-    if s.len() < 2 {
-        return s.len();
-    }
-    text_end(s)
 }
 
 // Whether this is a modifier box that its content fills.

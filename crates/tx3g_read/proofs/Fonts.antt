@@ -1,21 +1,19 @@
 -- An entry without fault has fields, and its fonts stand one behind the other.
 use Prim.Native.Nat.{ℕ, suc, _+_, _≤_, _<_}
-use mathlib.Core.Path.{_≡_, refl, sym, ap, _∙_}
+use mathlib.Core.Path.{_≡_, refl}
 use mathlib.Core.List.{List}
 use native.Mathlib.Omega.{arith}
 use native.Mathlib.Nat.{le-refl, le-antisymm}
 use lib.ListN.{length}
 use borrow.Author.Tests.{le-ltb}
-use Rattle.verdict.specs.declared.Verdict.the-variants.{Fine}
 use Rattle.base.proofs.Choice.{either}
 use Rattle.fields.specs.BigEndian.{be}
 use Rattle.tx3g_fonts.specs.Fonts.{afterFont, fontAt, fontId}
 use Rattle.tx3g_fonts.proofs.Laws.{fonts-up}
-use Rattle.tx3g_entry.specs.Entry.{judgeEntry, fontsOf}
 use Rattle.tx3g_entry.proofs.Laws.{entry-fine}
 use Rattle.tx3g_read.specs.declared.Font.the-variants.{Named}
 use Rattle.tx3g_read.specs.Entry.{fieldsOf, readEntry, fontIn}
-use Rattle.tx3g_read.specs.Statements.{Reads, EntryReads}
+use Rattle.tx3g_read.specs.Statements.{EntryReads}
 
 -- a font lies before the end of the last
 before-end : (e : List ℕ) (b k m : ℕ) → k < m → fontAt e b (suc k) ≤ fontAt e b m

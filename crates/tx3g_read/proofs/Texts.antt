@@ -1,5 +1,5 @@
 -- The text of a sample without fault is what its encoding says.
-use Prim.Native.Nat.{ℕ, zero, suc, _+_, _-_, _≤_, _<_}
+use Prim.Native.Nat.{ℕ, zero, suc, _+_, _-_, _≤_}
 use mathlib.Core.Path.{_≡_, refl, sym, ap, _∙_}
 use mathlib.Core.Bool.{Bool, true, false}
 use mathlib.Core.List.{List, [], _∷_}
@@ -15,16 +15,14 @@ use Rattle.verdict.proofs.Judgement.{both-fine}
 use Rattle.viable.specs.declared.Judged.{Judged}
 use Rattle.viable.specs.declared.Judged.the-variants.{Right, Bad as BadAt}
 use Rattle.viable.specs.FirstBad.{judgedBy}
-use Rattle.utf8.specs.Utf8.{utf8}
 use Rattle.utf8.specs.Strings.{startsWith}
 use Rattle.characters.specs.declared.Counted.{Counted}
 use Rattle.characters.specs.declared.Counted.the-variants.{Characters, Bad}
-use Rattle.characters.specs.Characters.{firsts, utf16, firstUnits, mark, tx3gText, tx3gBegun, characterCount, countBy, charactersOf}
+use Rattle.characters.specs.Characters.{utf16, firstUnits, mark, tx3gText, tx3gBegun, characterCount, countBy, charactersOf}
 use Rattle.characters.proofs.Counts.{mark-length, counted-text, count-units, count-firsts}
 use Rattle.characters.proofs.Begun.{text-marked, text-other}
 use Rattle.boxes.specs.Boxes.{part}
-use Rattle.tx3g_sample.specs.declared.Reading.the-variants.{Good}
-use Rattle.tx3g_sample.specs.Sample.{textEnd, counted, countedAt, countOf, charactersIn, judgeText, readSample}
+use Rattle.tx3g_sample.specs.Sample.{textEnd, counted, countedAt, countOf, charactersIn, judgeText}
 use Rattle.tx3g_sample.proofs.Laws.{read-good, text-fine, count-past}
 use Rattle.tx3g_read.specs.Sample.{marked, textOf}
 use Rattle.tx3g_read.specs.Statements.{Encodes, TextIs}

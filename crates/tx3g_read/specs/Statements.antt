@@ -5,7 +5,6 @@ use mathlib.Core.Bool.{Bool, true, false}
 use mathlib.Core.List.{List}
 use lib.ListN.{length}
 use Rattle.verdict.specs.declared.Verdict.the-variants.{Fine}
-use Rattle.fields.specs.BigEndian.{be}
 use Rattle.utf8.specs.Utf8.{utf8}
 use Rattle.characters.specs.Characters.{firsts, utf16, firstUnits}
 use Rattle.boxes.specs.Boxes.{part}
@@ -13,10 +12,8 @@ use Rattle.tx3g_fonts.specs.Fonts.{fontAt, fontId}
 use Rattle.tx3g_entry.specs.Entry.{judgeEntry}
 use Rattle.tx3g_sample.specs.declared.Reading.the-variants.{Good}
 use Rattle.tx3g_sample.specs.Sample.{readSample}
-use Rattle.tx3g_read.specs.declared.Fields.{Fields}
 use Rattle.tx3g_read.specs.declared.Entry.the-variants.{Whole}
 use Rattle.tx3g_read.specs.declared.Font.the-variants.{Named}
-use Rattle.tx3g_read.specs.declared.Text.{Text}
 use Rattle.tx3g_read.specs.Entry.{fieldsOf, readEntry, fontIn}
 use Rattle.tx3g_read.specs.Sample.{textOf}
 

@@ -7,7 +7,6 @@ use native.Mathlib.Omega.{arith}
 use lib.Dec.{ltb, leb}
 use lib.ListN.{length}
 use borrow.Author.Tests.{le-leb, lt-leb, lt-ltb, le-ltb, leb-true, leb-false}
-use Rattle.base.specs.Choice.{pick, both}
 use Rattle.fields.specs.BigEndian.{be}
 use Rattle.tx3g_runs.specs.declared.Run.the-variants.{Plain, End}
 use Rattle.tx3g_runs.specs.Runs.{lasts, runBy, runAmong, nextRun}

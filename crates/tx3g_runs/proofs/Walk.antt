@@ -1,31 +1,28 @@
 -- A run is what it says of its characters.
-use Prim.Native.Nat.{ℕ, zero, suc, _+_, _-_, _*_, _≤_, _<_, min}
+use Prim.Native.Nat.{ℕ, zero, suc, _+_, _-_, _≤_, _<_, min}
 use mathlib.Core.Path.{_≡_, refl, sym, ap, ap₂, _∙_, subst, subst⁻¹}
 use mathlib.Core.Logic.{inl, inr}
 use mathlib.Core.Bool.{Bool, true, false}
 use mathlib.Core.List.{List}
 use native.Mathlib.Omega.{arith}
-use native.Mathlib.Nat.{add-zero}
 use lib.Dec.{ltb, leb}
 use lib.ListN.{length}
 use borrow.Author.Tests.{le-leb, lt-leb, lt-ltb, le-ltb, ltb-true, leb-true}
-use Rattle.base.specs.Choice.{pick, both}
+use Rattle.base.specs.Choice.{both}
 use Rattle.base.proofs.Choice.{by-test, either, both-left, both-right, true-false}
 use Rattle.fields.specs.BigEndian.{be}
-use Rattle.bodies.specs.declared.Body.the-variants.{At, Nowhere}
-use Rattle.tx3g_contents.specs.Contents.{stylesEnd}
+use Rattle.bodies.specs.declared.Body.the-variants.{At}
 use Rattle.tx3g_rules.specs.Rules.{styleAt}
 use Rattle.tx3g_rules.proofs.Laws.{style-room, style-place}
 use Rattle.tx3g_sample.specs.declared.Reading.the-variants.{Good}
 use Rattle.tx3g_sample.specs.Sample.{readSample}
 use Rattle.tx3g_style.specs.declared.Styled.the-variants.{Found}
-use Rattle.tx3g_style.specs.Style.{holdsAt, holds, styleIn, defaultStyle, styleAmong, inForce, stylesOf, styleOf}
+use Rattle.tx3g_style.specs.Style.{holdsAt, holds, styleIn, defaultStyle, styleAmong, stylesOf, styleOf}
 use Rattle.tx3g_style.proofs.Laws.{NoneBefore, style-found, style-none, styles-lie}
-use Rattle.tx3g_style.proofs.Only.{Ordered, styles-ordered}
-use Rattle.tx3g_runs.specs.declared.Run.{Run}
-use Rattle.tx3g_runs.specs.declared.Run.the-variants.{Styled, Plain, End}
-use Rattle.tx3g_runs.specs.Runs.{lasts, runBy, runAmong, nextRun}
-use Rattle.tx3g_runs.specs.Statements.{Stands, WalkBegins, RunMeans, RunIs, PlainIs, WalkEnds}
+use Rattle.tx3g_style.proofs.Only.{styles-ordered}
+use Rattle.tx3g_runs.specs.declared.Run.the-variants.{Styled, Plain}
+use Rattle.tx3g_runs.specs.Runs.{lasts, runBy, runAmong}
+use Rattle.tx3g_runs.specs.Statements.{WalkBegins, RunMeans, RunIs, PlainIs, WalkEnds}
 use Rattle.tx3g_runs.proofs.Laws.{next-end, next-is, among-none, among-here, among-later}
 
 -- a style that has no character from k on has none from a later one on, and holds none

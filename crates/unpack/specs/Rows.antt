@@ -14,7 +14,7 @@ use Rattle.unpack.specs.declared.Unpacked.{Unpacked}
 use Rattle.unpack.specs.declared.Unpacked.the-variants.{Done, Refused}
 use Rattle.unpack.specs.declared.Listed.{Listed}
 use Rattle.unpack.specs.declared.Listed.the-variants.{Rows, Stopped}
-use Rattle.unpack.specs.Unpacking.{badTimes, trackCues, trackMs, judgeEnd, answerBy, doneWith, unpackRoom}
+use Rattle.unpack.specs.Unpacking.{badTimes, trackCues, judgeEnd, answerBy, doneWith, unpackRoom}
 
 unfoldable pub rowTimes : ℕ → List ℕ → ℕ → Verdict
 rowTimes scale tab i = badTimes scale (rowAt tab i .start) (rowAt tab i .end) gives 10 at i

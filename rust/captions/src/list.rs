@@ -81,6 +81,8 @@ pub struct CueList {
     /// Whole records, whose texts lie in the pool and are UTF-8.
     records: Vec<u8>,
     pool: Vec<u8>,
+    /// The largest ID, 0 without cues.
+    largest: u32,
 }
 
 impl CueList {
@@ -98,12 +100,18 @@ impl CueList {
         pool: Vec<u8>,
     ) -> Result<Self, Refusal> {
         judge_list(scale, t, &records, &pool)?;
-        Ok(CueList { records, pool })
+        Ok(CueList::from_good(records, pool))
     }
 
     /// A list from records and a pool that are known to be good.
     pub(crate) fn from_good(records: Vec<u8>, pool: Vec<u8>) -> Self {
-        CueList { records, pool }
+        let ids = records.chunks_exact(RECORD_BYTES);
+        let largest = ids.map(|record| be32(record, 0)).max().unwrap_or(0);
+        CueList {
+            records,
+            pool,
+            largest,
+        }
     }
 
     /// Puts a cue at the end. Refused: 9, place its index, where a text's length or its place in
@@ -117,6 +125,7 @@ impl CueList {
             });
         };
         self.records.extend(record);
+        self.largest = self.largest.max(cue.id);
         for text in [cue.identifier, cue.settings, cue.payload] {
             self.pool.extend(text.as_bytes());
         }
@@ -126,8 +135,7 @@ impl CueList {
     /// As [`push`](CueList::push), with one more than the largest ID of the list for the cue's
     /// ID, 1 at first; gives the ID.
     pub fn push_auto(&mut self, cue: ListedCue<'_>) -> Result<u32, Refusal> {
-        let largest = self.iter().map(|cue| cue.id).max();
-        let id = largest.unwrap_or(0).saturating_add(1);
+        let id = self.largest.saturating_add(1);
         self.push(ListedCue { id, ..cue })?;
         Ok(id)
     }

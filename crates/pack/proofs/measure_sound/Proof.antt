@@ -1,13 +1,10 @@
 use Rattle.pack.proofs.Turns.{sound-timed, measured}
-use Rattle.pack.specs.declared.Packed.{Packed}
-use Rattle.pack.specs.declared.Packed.the-variants.{Done}
-use Rattle.pack.specs.Packing.{packedTrack, tableBytes, samplesBytes, sizesOf}
+use Rattle.pack.specs.Packing.{sizesOf}
 use Rattle.cuts.specs.Cuts.{Timed}
 use Rattle.records.specs.Records.{count}
 use lib.ListN.{length}
-use mathlib.Core.Path.{_≡_, refl, sym, subst⁻¹}
-use Prim.Native.Nat.{ℕ, _*_, _/_}
-use native.Mathlib.Omega.{arith}
+use mathlib.Core.Path.{refl, subst⁻¹}
+use Prim.Native.Nat.{ℕ, _/_}
 use borrow.Author.Needs.{needs}
 use Rattle.pack.proofs.measure_sound.Statement.{statement}
 use Rattle.pack.proofs.measure_sound.Tie as tie

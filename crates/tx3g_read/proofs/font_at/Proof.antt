@@ -1,4 +1,3 @@
-use mathlib.Core.Path.{_≡_}
 use native.Mathlib.Omega.{arith}
 use Rattle.tx3g_read.proofs.Laws.{font-short, font-cut, font-named}
 use borrow.Author.Needs.{needs}

@@ -1,4 +1,4 @@
-use mathlib.Core.Path.{ap, sym, _∙_}
+use mathlib.Core.Path.{sym, _∙_}
 use native.Mathlib.Omega.{arith}
 use Rattle.fields.specs.BigEndian.{be}
 use Rattle.tx3g_fonts.proofs.Laws.{fonts-from}

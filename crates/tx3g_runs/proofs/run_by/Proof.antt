@@ -1,4 +1,3 @@
-use native.Mathlib.Omega.{arith}
 use borrow.Author.Tests.{lt-ltb, le-ltb}
 use Rattle.tx3g_runs.specs.Runs.{runBy}
 use borrow.Author.Needs.{needs}

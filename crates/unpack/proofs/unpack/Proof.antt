@@ -1,5 +1,5 @@
 use mathlib.Core.List.{List}
-use mathlib.Core.Path.{_∙_, ap, refl, sym, subst}
+use mathlib.Core.Path.{_∙_, ap, refl, subst}
 use Rattle.timeline.specs.Cues.{Cue}
 use Rattle.unpack_write.specs.Records.{recordsOf, poolOf}
 use Rattle.unpack.specs.Unpacking.{roomed, outOf, unpackOf}

@@ -68,7 +68,7 @@ impl<'a> Sample<'a> {
                 Text::Utf16(&sample[part])
             } else {
                 // SAFETY: the text of a sample without fault that does not begin with FE FF is
-                // UTF-8 (crate `tx3g_sample`, `readSample`).
+                // UTF-8 (crate `tx3g_read`, `text-is`).
                 Text::Utf8(unsafe { text(sample, part) })
             },
             characters: read.characters,

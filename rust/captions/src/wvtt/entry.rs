@@ -22,7 +22,7 @@ impl<'a> Entry<'a> {
         let read = unsafe { ffi::captions_wvtt_read_entry(entry.as_ptr(), entry.len()) };
         judged(read.refusal)?;
         // SAFETY: configuration and label of an entry without fault are UTF-8 (crate
-        // `wvtt_entry`, `judgeEntry`).
+        // `wvtt_entry`, `entry-holds`).
         let part = |from, end| unsafe { text(entry, from..end) };
         Ok(Entry {
             configuration: part(read.configuration_from, read.configuration_end),
