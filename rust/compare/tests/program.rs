@@ -71,7 +71,7 @@ impl Place {
             Place::Bytes(bytes) => fs::write(path, bytes),
             Place::Shut(bytes) => {
                 fs::write(path, bytes)?;
-                fs::set_permissions(path, Permissions::from_mode(0))
+                fs::set_permissions(path, Permissions::from_mode(0o000))
             }
             Place::Link(bytes) => {
                 let target = path.with_extension("linked");
