@@ -31,6 +31,7 @@ entry-reads e fine =
     let g = entry-fine e fine in
     record {
       body = g .fonts;
+      stands = g .found;
       whole = rw (fine, g .found);
       first = refl;
       fonts = λ k h. font-is e (g .fonts) k (be 2 e (g .fonts)) h (g .lie);

@@ -9,7 +9,8 @@ use Rattle.utf8.specs.Utf8.{utf8}
 use Rattle.characters.specs.Characters.{firsts, utf16, firstUnits}
 use Rattle.boxes.specs.Boxes.{part}
 use Rattle.tx3g_fonts.specs.Fonts.{fontAt, fontId}
-use Rattle.tx3g_entry.specs.Entry.{judgeEntry}
+use Rattle.bodies.specs.declared.Body.the-variants.{At}
+use Rattle.tx3g_entry.specs.Entry.{fontsOf, judgeEntry}
 use Rattle.tx3g_sample.specs.declared.Reading.the-variants.{Good}
 use Rattle.tx3g_sample.specs.Sample.{readSample}
 use Rattle.tx3g_read.specs.declared.Entry.the-variants.{Whole}
@@ -19,7 +20,9 @@ use Rattle.tx3g_read.specs.Sample.{textOf}
 
 -- an entry without fault has fields; and from the first font on, each font is there, and the next stands where its name ends
 pub record Reads (e : List ℕ) : Type 0 where
+  -- where the body of its `ftab` begins
   pub body : ℕ
+  pub stands : fontsOf e ≡ At body
   pub whole : readEntry e ≡ Whole (fieldsOf e body)
   pub first : fieldsOf e body .from ≡ fontAt e body 0
   pub fonts : (k : ℕ) → k < fieldsOf e body .fonts → fontIn e (fontAt e body k) ≡ Named (fontId e body k) (fontAt e body k + 3) (fontAt e body (suc k))

@@ -109,6 +109,10 @@ module _ (e s : List ℕ) (n b : ℕ) (good : readSample e s ≡ Good n) (found 
                 (λ h. none-later s k (be 2 s (q + 2)) (styleAt b j) (omega (arith, m .0)) (over-so j h))
                 (λ h. let f : i ≡ j = omega arith in subst (λ (x : ℕ). lasts s (be 2 s (q + 2)) (styleAt b x) ≡ false) f (rw (le-ltb (be 2 s (q + 2)) (be 2 s (q + 2)) (omega arith))));
           },
+          i,
+          omega (arith, counted-so),
+          rw (le-leb (be 2 s q) k begun, lt-ltb k (be 2 s (q + 2)) (m .0)),
+          refl,
         )
 
     -- one that has not: up to its start the default style holds

@@ -26,10 +26,12 @@ pub record Stands (s : List ℕ) (b left q k : ℕ) : Type 0 where
 abbrev pub WalkBegins : Type 0
 WalkBegins = (s : List ℕ) (b : ℕ) → Stands s b (be 2 s b) (b + 2) 0
 
--- what a run from k to x says of a text of n characters: each of its characters has the run's style, as `styleOf` answers it; behind it the walk goes on; and a run
--- of the default style ends at the text's end, or where a style holds the next character, so no longer one could be
+-- what a run from k to x says of a text of n characters: each of its characters has the run's style, as `styleOf` answers it; behind it the walk goes on. A run of
+-- a style ends where that style does. One of the default style ends at the text's end, or where a style holds the next character, so no longer one could be
 abbrev pub RunMeans : List ℕ → List ℕ → ℕ → ℕ → ℕ → Run → Type 0
-RunMeans e s n b k (Styled x t left q) = (k < x) × (x ≤ n) × ((j : ℕ) → k ≤ j → j < x → styleOf e s j ≡ Found t) × Stands s b left q x
+RunMeans e s n b k (Styled x t left q) =
+    (k < x) × (x ≤ n) × ((j : ℕ) → k ≤ j → j < x → styleOf e s j ≡ Found t) × Stands s b left q x
+    × (i : ℕ) × (i < be 2 s b) × (holds s b k i ≡ true) × (x ≡ be 2 s (styleAt b i + 2))
 RunMeans e s n b k (Plain x left q) =
     (k < x) × (x ≤ n) × ((j : ℕ) → k ≤ j → j < x → styleOf e s j ≡ Found (defaultStyle e))
     × ((x ≡ n) ⊎ (Stands s b left q x × (i : ℕ) × (i < be 2 s b) × (holds s b x i ≡ true)))

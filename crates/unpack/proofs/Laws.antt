@@ -38,7 +38,7 @@ use Rattle.unpack.specs.declared.Unpacked.{Unpacked}
 use Rattle.unpack.specs.declared.Unpacked.the-variants.{Done, Refused as Stopped}
 use Rattle.unpack.specs.declared.Listed.{Listed}
 use Rattle.unpack.specs.Unpacking.{trackCues, trackMs, badTimes, judgeTimes, judgeEnd, judgeUnpack, answerBy, doneWith, unpackRoom, roomed, unpackOf, outOf}
-use Rattle.unpack.specs.Rows.{rowTimes, endOf, rowsRoom, refusedBy, Measurable, Written, RowsOf, ReadAs}
+use Rattle.unpack.specs.Rows.{rowTimes, endOf, rowsRoom, refusedBy, Measurable, RowsReady, RowsOf, ReadAs}
 use Rattle.unpack.proofs.Kept.{EachCue, EachBody, unpack-keeps}
 
 -- ---- the cues of a track without fault are sound
@@ -199,8 +199,8 @@ room-done a b (Done x y z) n p t e =
     apart : (r : Refusal) → roomed a b (Done x y z) ≡ Stopped r → ⊥
     apart r q = let k : _≡_ {A = ℕ} 0 1 = cc in omega arith
 
-pub written-measurable : (scale : ℕ) (samples tab : List ℕ) (n sum : ℕ) → Written scale samples tab n sum → Measurable scale tab n sum
-written-measurable scale samples tab n sum w = record {
+pub ready-measurable : (scale : ℕ) (samples tab : List ℕ) (n sum : ℕ) → RowsReady scale samples tab n sum → Measurable scale tab n sum
+ready-measurable scale samples tab n sum w = record {
   scaled = w .scaled;
   most = w .most;
   rows = w .rows;
@@ -242,7 +242,7 @@ module _ (scale : ℕ) (table samples : List ℕ) where
       rows-are tab n sum rows most good sums below e =
           let is = cues-done table samples (known samples tab n) e in
           record {
-            written = record {
+            rows-ready = record {
               scaled = scale-limits scale ok .0;
               most = most;
               rows = rows;
@@ -263,7 +263,7 @@ module _ (scale : ℕ) (table samples tab : List ℕ) (n sum : ℕ) (w : RowsOf 
   -- the room for the rows is that of the track, and so is the answer
   pub rows-room : rowsRoom scale tab n (back scale sum) ≡ unpackRoom scale table samples
   rows-room =
-      room-same samples tab n (λ i h. w .written .ready i h .placed) scale (back scale sum)
+      room-same samples tab n (λ i h. w .rows-ready .ready i h .placed) scale (back scale sum)
       ∙ ap (λ (cs : List Cue). answerBy (judgeEnd scale (back scale sum) cs) (doneWith scale (back scale sum) cs)) (w .cues)
       ∙ w .room
 

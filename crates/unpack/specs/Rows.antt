@@ -43,7 +43,7 @@ pub record Measurable (scale : ℕ) (tab : List ℕ) (n sum : ℕ) : Type 0 wher
   pub sum-below : sum < 281474976710656
 
 -- n rows that are ready to be written, and the sum
-pub record Written (scale : ℕ) (samples tab : List ℕ) (n sum : ℕ) : Type 0 where
+pub record RowsReady (scale : ℕ) (samples tab : List ℕ) (n sum : ℕ) : Type 0 where
   pub scaled : 0 < scale
   pub most : n ≤ 1024
   pub rows : n * 9 ≤ length tab
@@ -52,7 +52,7 @@ pub record Written (scale : ℕ) (samples tab : List ℕ) (n sum : ℕ) : Type 0
 
 -- they are the rows of a track's cues
 pub record RowsOf (scale : ℕ) (table samples tab : List ℕ) (n sum : ℕ) : Type 0 where
-  pub written : Written scale samples tab n sum
+  pub rows-ready : RowsReady scale samples tab n sum
   pub cues : known samples tab n ≡ trackCues table samples
   pub room : answerBy (judgeEnd scale (back scale sum) (trackCues table samples)) (doneWith scale (back scale sum) (trackCues table samples)) ≡ unpackRoom scale table samples
 

@@ -20,7 +20,7 @@ ghost use Rattle.times.specs.Times.{back, timelineAllowed};
 ghost use Rattle.rows.specs.Table.{rowAt, known};
 ghost use Rattle.unpack_write.specs.Records.{recordsOf, poolOf};
 ghost use Rattle.unpack.specs.Unpacking.{badTimes, trackCues, unpackRoom, roomed, unpackOf, outOf};
-ghost use Rattle.unpack.specs.Rows.{rowTimes, endOf, rowsRoom, refusedBy, Measurable, Written, ReadAs};
+ghost use Rattle.unpack.specs.Rows.{rowTimes, endOf, rowsRoom, refusedBy, Measurable, RowsReady, ReadAs};
 
 // The lengths of records and pool in bytes and T in milliseconds, or a refusal.
 pub enum Unpacked {
@@ -147,7 +147,7 @@ fn write_list(
     records: &mut [u8],
     pool: &mut [u8],
 ) -> Unpacked
-    requires { ⌜ Written scale (now samples) (now tab) n total ⌝ }
+    requires { ⌜ RowsReady scale (now samples) (now tab) n total ⌝ }
     ensures { λ r. ⌜ (r ≡ roomed (length (now (records .entry))) (length (now (pool .entry))) (rowsRoom scale (now (tab .entry)) n (back scale total))) × (now (records .exit) ≡ outOf r (recordsOf scale (known (now (samples .entry)) (now (tab .entry)) n)) (now (records .entry))) × (now (pool .exit) ≡ outOf r (poolOf (known (now (samples .entry)) (now (tab .entry)) n)) (now (pool .entry))) ⌝ }
 {
     let room = measure_rows(scale, tab, n, total);

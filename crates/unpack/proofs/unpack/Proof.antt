@@ -10,7 +10,7 @@ use Rattle.unpack.proofs.unpack.Statement.{statement}
 use Rattle.unpack.proofs.unpack.Tie as tie
 
 write-list-requires : tie.Need-write-list-requires
-write-list-requires c κs = subst (ReadAs _ _ _ _) (c .before .before .before .before .list .given .1) (c .before .before .before .before .before .before .before .read-track .ensures) .written
+write-list-requires c κs = subst (ReadAs _ _ _ _) (c .before .before .before .before .list .given .1) (c .before .before .before .before .before .before .before .read-track .ensures) .rows-ready
 
 returns : tie.Need-returns
 returns c = let a = c .before .before .before .before .before .before .before .before .before .before .before .before .before .before .before .before .before .before .args in

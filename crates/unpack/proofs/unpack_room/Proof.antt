@@ -1,12 +1,12 @@
 use mathlib.Core.Path.{_∙_, subst}
 use Rattle.unpack.specs.Rows.{ReadAs}
-use Rattle.unpack.proofs.Laws.{written-measurable, rows-room}
+use Rattle.unpack.proofs.Laws.{ready-measurable, rows-room}
 use borrow.Author.Needs.{needs}
 use Rattle.unpack.proofs.unpack_room.Statement.{statement}
 use Rattle.unpack.proofs.unpack_room.Tie as tie
 
 measure-rows-requires : tie.Need-measure-rows-requires
-measure-rows-requires c κs = written-measurable _ _ _ _ _ (subst (ReadAs _ _ _ _) (c .before .before .list .given .1) (c .before .before .before .before .before .read-track .ensures) .written)
+measure-rows-requires c κs = ready-measurable _ _ _ _ _ (subst (ReadAs _ _ _ _) (c .before .before .list .given .1) (c .before .before .before .before .before .read-track .ensures) .rows-ready)
 
 returns : tie.Need-returns
 returns c = c .measure-rows .ensures ∙ rows-room _ _ _ _ _ _ (subst (ReadAs _ _ _ _) (c .before .before .before .list .given .1) (c .before .before .before .before .before .before .read-track .ensures))

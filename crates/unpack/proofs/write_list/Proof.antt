@@ -5,13 +5,13 @@ use borrow.Author.Tests.{lt-ltb, le-ltb}
 use Rattle.base.specs.Over.{over}
 use Rattle.unpack.specs.declared.Unpacked.the-variants.{Refused}
 use Rattle.unpack.specs.Unpacking.{roomed}
-use Rattle.unpack.proofs.Laws.{written-measurable, room-refused, room-fine, records-whole, pool-whole}
+use Rattle.unpack.proofs.Laws.{ready-measurable, room-refused, room-fine, records-whole, pool-whole}
 use borrow.Author.Needs.{needs}
 use Rattle.unpack.proofs.write_list.Statement.{statement}
 use Rattle.unpack.proofs.write_list.Tie as tie
 
 measure-rows-requires : tie.Need-measure-rows-requires
-measure-rows-requires c κs = written-measurable _ _ _ _ _ (c .before .before .before .before .pre)
+measure-rows-requires c κs = ready-measurable _ _ _ _ _ (c .before .before .before .before .pre)
 
 returns : tie.Need-returns
 returns c = let w = room-refused _ _ _ _ _ (c .before .before .measure-rows .ensures) (c .enum-told .given .1) in (w .0, w .1 _ _, w .1 _ _)
