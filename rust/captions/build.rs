@@ -70,7 +70,7 @@ fn made() -> Result<PathBuf, String> {
 fn make(top: &Path) -> Result<(), String> {
     println!(
         "cargo:warning={ARCHIVE} was missing or older than its sources: running `rt staticlib \
-         captions`, which proves the library first and takes some five minutes the first time"
+         captions`, which proves the library first and takes some six minutes the first time"
     );
     let run = Command::new("rt")
         .args(["staticlib", "captions"])
