@@ -1,5 +1,6 @@
-// Bytes that are compared.
+// Bytes and numbers that are compared.
 ghost use mathlib.Core.Path.{_≡_};
+ghost use Prim.Native.Nat.{min};
 ghost use Rattle.base.specs.Choice.{sameList};
 
 // Whether the bytes are the same.
@@ -17,4 +18,14 @@ pub fn same_bytes(a: &[u8], b: &[u8]) -> bool
         i += 1;
     }
     true
+}
+
+// The smaller of two numbers.
+pub fn least(a: usize, b: usize) -> usize
+    ensures { λ r. ⌜ r ≡ min a b ⌝ }
+{
+    if a < b {
+        return a;
+    }
+    b
 }

@@ -153,8 +153,15 @@ accepts-exactly scale T records pool table samples answer c = (
       (answers-exactly scale T records pool table samples (w .0) (readable-fine table samples (v .readable) (v .positive)) accepted tt .1 (conforms-right scale T records pool table samples v)),
 )
 
+-- a fault of the track beside a list without fault
+track-refused : (scale T : ℕ) (records pool table samples : List ℕ) (r : Refusal) → judgeList scale T records pool ≡ Fine → judgeTrack table samples ≡ Refuses r
+    → conformance scale T records pool table samples ≡ Refuses r
+unfolding conformance
+track-refused scale T records pool table samples r f g = rw (f, g)
+
 pub blames-exactly : BlamesExactly
-blames-exactly scale T records pool table samples answer c r = go (judgeList scale T records pool) refl
+blames-exactly scale T records pool table samples answer c r =
+    let w = go (judgeList scale T records pool) refl in (w .0, w .1, λ f g. track-is-blamed f ∙ ap ofTrack (track-refused scale T records pool table samples r f g))
   where
     list-is : (q : Refusal) → judgeList scale T records pool ≡ Refuses q → answer ≡ BadList q
     list-is q f = c .answers ∙ list-at-fault scale T records pool table samples q f

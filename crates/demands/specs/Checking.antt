@@ -35,11 +35,13 @@ AcceptsExactly =
     (scale T : ℕ) (records pool table samples : List ℕ) (answer : Checked) → CheckCall scale T records pool table samples answer
     → (answer ≡ Passed) ↔ ((judgeList scale T records pool ≡ Fine) × Conforms scale T records pool table samples)
 
--- it blames the list exactly if the list has a fault, with that fault; and the track only beside a list without fault
+-- it blames the list exactly if the list has a fault, with that fault; the track only beside a list without fault, and then with the track's own fault if it has one
 abbrev pub BlamesExactly : Type 0
 BlamesExactly =
     (scale T : ℕ) (records pool table samples : List ℕ) (answer : Checked) → CheckCall scale T records pool table samples answer → (r : Refusal)
-    → ((answer ≡ BadList r) ↔ (judgeList scale T records pool ≡ Refused r)) × (answer ≡ BadTrack r → judgeList scale T records pool ≡ Fine)
+    → ((answer ≡ BadList r) ↔ (judgeList scale T records pool ≡ Refused r))
+    × (answer ≡ BadTrack r → judgeList scale T records pool ≡ Fine)
+    × (judgeList scale T records pool ≡ Fine → judgeTrack table samples ≡ Refused r → answer ≡ BadTrack r)
 
 -- with a list and a track without fault, 16 at a sample says exactly that it is the first that ends past T or holds a tick with the wrong cues
 abbrev pub DiffersExactly : Type 0

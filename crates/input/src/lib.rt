@@ -1,8 +1,8 @@
 // The program's input line: scale and T in decimal, a space between, LF after, and nothing else. It is read in chunks.
+use compare::least;
 ghost use mathlib.Core.Path.{_≡_};
 ghost use mathlib.Core.Bool.{true};
 ghost use Rattle.input.specs.Line.{isDigit};
-ghost use Prim.Native.Nat.{min};
 ghost use Rattle.input.specs.Reading.{grown, stepped, fed, lineAt};
 ghost use Rattle.input.specs.Reads.{isWrong, chunkOf};
 
@@ -141,15 +141,6 @@ fn is_wrong(state: Reading) -> bool
         return false;
     };
     true
-}
-
-fn least(a: usize, b: usize) -> usize
-    ensures { λ r. ⌜ r ≡ min a b ⌝ }
-{
-    if a < b {
-        return a;
-    }
-    b
 }
 
 // A read more, which answered `got` and left its bytes at the front of the buffer. One that failed makes the line a bad one.

@@ -1,9 +1,10 @@
 // The runs of a `tx3g` text: characters of one style, by a style of the sample or by the default one.
+use compare::least;
 use fields::get16;
 use tx3g_style::Style;
 use tx3g_style::read_style;
 ghost use mathlib.Core.Path.{_≡_};
-ghost use Prim.Native.Nat.{_+_, _≤_, _<_, min};
+ghost use Prim.Native.Nat.{_+_, _≤_, _<_};
 ghost use lib.Dec.{leb};
 ghost use lib.ListN.{length};
 ghost use Rattle.tx3g_runs.specs.declared.Run.the-variants.{Plain};
@@ -23,15 +24,6 @@ pub enum Run {
         next: usize,
     },
     End,
-}
-
-fn least(a: usize, b: usize) -> usize
-    ensures { λ r. ⌜ r ≡ min a b ⌝ }
-{
-    if a < b {
-        return a;
-    }
-    b
 }
 
 // Whether the 12 bytes of a style at `at` are there.

@@ -40,4 +40,10 @@ fn the_examples_run() {
     assert_eq!(run_file("examples/c/example.c", "example"), "7 Hi\n");
     let packed = run_file("examples/c/pack.c", "pack");
     assert_eq!(packed, "1000 41\n500 75\n1000 34\n500 8\n");
+    let read = run_file("examples/c/tx3g.c", "tx3g");
+    let (entry, runs) = (
+        "font 1 Serif\nbox 0 0 60 400 of the entry\n",
+        "UTF-8 Hello\ncharacters 0 to 2 bold\ncharacters 2 to 5\n",
+    );
+    assert_eq!(read, format!("{entry}{runs}"));
 }
