@@ -209,7 +209,7 @@ typedef struct CaptionsUnpacked {
 } CaptionsUnpacked;
 
 /* Unpacks a track into a cue list; last 15, place 0 for the records and 1 for the pool. The room is what unpacking answers where there is room.
-   Both take 80 KiB of stack. */
+   Both take up to 80 KiB of stack. */
 CaptionsUnpacked captions_wvtt_unpack_room(uint32_t scale, const uint8_t *table, size_t table_len, const uint8_t *samples,
                                            size_t samples_len);
 CaptionsUnpacked captions_wvtt_unpack(uint32_t scale, const uint8_t *table, size_t table_len, const uint8_t *samples, size_t samples_len,

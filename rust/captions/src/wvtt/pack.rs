@@ -111,7 +111,7 @@ fn unpacked(answer: ffi::CaptionsUnpacked) -> Result<Unpacked, Refusal> {
 }
 
 /// What [`unpack`] answers where there is room: the lengths it needs and T, or its refusal. It
-/// takes 80 KiB of stack.
+/// takes up to 80 KiB of stack.
 pub fn unpack_room(scale: u32, table: &[u8], samples: &[u8]) -> Result<Unpacked, Refusal> {
     // SAFETY: pointers and lengths of slices.
     unpacked(unsafe {
@@ -127,7 +127,7 @@ pub fn unpack_room(scale: u32, table: &[u8], samples: &[u8]) -> Result<Unpacked,
 
 /// Unpacks a track into cue records and their pool. Refused: 10 for the scale, as
 /// [`judge_track`], 9, 11 to 14, 17 with the sample's index, 10 with the record's, and
-/// last 15, place 0 for the records and 1 for the pool. It takes 80 KiB of stack.
+/// last 15, place 0 for the records and 1 for the pool. It takes up to 80 KiB of stack.
 pub fn unpack(
     scale: u32,
     table: &[u8],
