@@ -41,7 +41,9 @@ enum {
     CAPTIONS_OTHER_TEXTS = 14,  /* one ID, other texts */
     CAPTIONS_NO_ROOM = 15,      /* output too short for the whole result */
     CAPTIONS_DIFFERS = 16,      /* the track differs */
-    CAPTIONS_NO_ID = 17         /* a cue without ID, in unpacking */
+    CAPTIONS_NO_ID = 17,        /* a cue without ID, in unpacking */
+    CAPTIONS_STYLE_BLOCK = 18,  /* a STYLE or REGION block of a file */
+    CAPTIONS_MALFORMED = 19     /* a line or block of a file that may not stand there */
 };
 
 /* Limits (docs/FORMATS.md). */
@@ -55,7 +57,8 @@ enum {
 #define CAPTIONS_LARGEST_SCALE 1000000  /* ticks a second */
 #define CAPTIONS_LARGEST_MS 359999999   /* 99:59:59.999 */
 
-/* Why and where. Number 0 says that nothing is wrong. The place is a byte of a sample or an entry, or the index of a record or a sample.
+/* Why and where. Number 0 says that nothing is wrong. The place is a byte of a sample or an entry, the index of a record or a
+   sample, or the line of a file.
    The offset says where a text is bad, counted from the text's start: at the first byte after which no continuation could be right, or at
    the text's length where it ends too early. Beside every number but 6 the offset is 0.
    Where to look for 6: in a sample or an entry at byte place + 8 + offset, behind the header of the box at the place; in a tx3g sample at byte
@@ -91,6 +94,8 @@ static inline const char *captions_reason(uint32_t number) {
         "output too short",
         "the track differs",
         "a cue without ID",
+        "a STYLE or REGION block",
+        "a malformed line or block",
     };
     return number < sizeof reasons / sizeof *reasons ? reasons[number] : "unknown";
 }
@@ -224,6 +229,22 @@ typedef struct CaptionsChecked {
    sample count where the track ends early. A cue without vsid is a wrong cue. */
 CaptionsChecked captions_wvtt_check(uint32_t scale, uint32_t t, const uint8_t *records, size_t records_len, const uint8_t *pool,
                                     size_t pool_len, const uint8_t *table, size_t table_len, const uint8_t *samples, size_t samples_len);
+
+/* ---- WebVTT files ---- */
+
+typedef struct CaptionsVttRead {
+    CaptionsRefusal refusal;
+    size_t cues; /* how many */
+    size_t record_bytes;
+    size_t pool_bytes;
+} CaptionsVttRead;
+
+/* Reads a WebVTT file into a cue list, IDs counted from 0. The place of a refusal is a line number, from 1: a cue's timing line, else the first line
+   of the block. Header lines and NOTE blocks are passed over; 18 for a STYLE or REGION block, 19 for what is malformed, and each cue is judged as
+   packing judges it at scale 1,000 and t 359,999,999; the offset of 6 counts in the text as the pool would hold it. Last 15, place 0 for the
+   records and 1 for the pool. The room is what reading answers where there is room. Both take up to 80 KiB of stack. */
+CaptionsVttRead captions_vtt_read_room(const uint8_t *file, size_t file_len);
+CaptionsVttRead captions_vtt_read(const uint8_t *file, size_t file_len, uint8_t *records, size_t records_len, uint8_t *pool, size_t pool_len);
 
 /* ---- 3GPP text: entries ---- */
 

@@ -21,6 +21,8 @@ use Rattle.pack.specs.declared.Packed.{Packed}
 use Rattle.pack.specs.declared.Packed.the-variants.{Done, Refused as NotPacked}
 use Rattle.unpack.specs.declared.Unpacked.{Unpacked}
 use Rattle.unpack.specs.declared.Unpacked.the-variants.{Done as Listed, Refused as NotListed}
+use Rattle.vtt_read.specs.declared.FileRead.{FileRead}
+use Rattle.vtt_read.specs.declared.FileRead.the-variants.{Done as FileDone, Refused as FileRefused}
 use Rattle.conform.specs.declared.Checked.{Checked}
 use Rattle.conform.specs.declared.Checked.the-variants.{Passed, BadList, BadTrack}
 use Rattle.wvtt_entry.specs.declared.Entry.{Entry as WvttEntry}
@@ -56,6 +58,7 @@ use Rattle.captions.specs.declared.CaptionsTx3gSample.{CaptionsTx3gSampl
 use Rattle.captions.specs.declared.CaptionsRun.{CaptionsRun}
 use Rattle.captions.specs.declared.CaptionsPacked.{CaptionsPacked}
 use Rattle.captions.specs.declared.CaptionsUnpacked.{CaptionsUnpacked}
+use Rattle.captions.specs.declared.CaptionsVttRead.{CaptionsVttRead}
 use Rattle.captions.specs.declared.CaptionsStyle.{CaptionsStyle}
 use Rattle.captions.specs.declared.CaptionsTextBox.{CaptionsTextBox}
 use Rattle.captions.specs.declared.CaptionsModifier.{CaptionsModifier}
@@ -135,6 +138,11 @@ flatPacked (NotPacked r) = record { refusal = r; samples = 0; «table_bytes» = 
 abbrev pub flatUnpacked : Unpacked → CaptionsUnpacked
 flatUnpacked (Listed n p t) = record { refusal = nothing; «record_bytes» = n; «pool_bytes» = p; t = t }
 flatUnpacked (NotListed r) = record { refusal = r; «record_bytes» = 0; «pool_bytes» = 0; t = 0 }
+
+-- what reading a file answers
+abbrev pub flatFile : FileRead → CaptionsVttRead
+flatFile (FileDone n a b) = record { refusal = nothing; cues = n; «record_bytes» = a; «pool_bytes» = b }
+flatFile (FileRefused r) = record { refusal = r; cues = 0; «record_bytes» = 0; «pool_bytes» = 0 }
 
 -- what the check answers. Who is at fault: 1 an entry, 2 a sample, 3 a list, 4 a track, 0 nobody
 abbrev pub flatChecked : Checked → CaptionsChecked

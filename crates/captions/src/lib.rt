@@ -22,6 +22,7 @@ use verdict::bad_text_at;
 use verdict::fault_at;
 use verdict::text_at;
 use viable::Judged;
+use vtt_read::FileRead;
 use wvtt_cues::Held;
 use wvtt_entry::Entry as WvttEntry;
 use wvtt_entry_write::Written;
@@ -42,7 +43,8 @@ ghost use Rattle.cues.specs.Judgement.{judgeList};
 ghost use Rattle.track.specs.Track.{judgeTrack};
 ghost use Rattle.pack.specs.Packing.{packedTrack, tableBytes, samplesBytes, packRoom, packedOf, after};
 ghost use Rattle.unpack.specs.Unpacking.{trackCues, unpackRoom, unpackOf, outOf};
-ghost use Rattle.unpack_write.specs.Records.{recordsOf, poolOf};
+ghost use Rattle.vtt_read.specs.Reading.{fileRecords, filePool, readRoom, readOf, outOf as fileOut};
+ghost use Rattle.records_write.specs.Records.{recordsOf, poolOf};
 ghost use Rattle.conform.specs.Conformance.{checked};
 ghost use Rattle.tx3g_read.specs.Entry.{readEntry as readTx3gEntry, fontIn};
 ghost use Rattle.tx3g_read.specs.Sample.{contentOf};
@@ -50,7 +52,7 @@ ghost use Rattle.tx3g_runs.specs.Runs.{nextRun};
 ghost use Rattle.tx3g_style.specs.Style.{styleOf};
 ghost use Rattle.tx3g_box.specs.TextBox.{spotOf};
 ghost use Rattle.tx3g_modifiers.specs.Modifiers.{nextModifier};
-ghost use Rattle.captions.specs.Flat.{flatVerdict, flatText, flatCount, flatStep, noCue, flatHeld, msOf, flatPacked, flatUnpacked, flatChecked, flatWvttEntry, flatWritten, flatFields, noFields, flatTx3gEntry, flatFont, noContent, flatContent, plainRun, flatRun, boxOf, noBox, flatSpot, noStyle, flatStyled, modifierOf, flatModifier, noModifier, flatModified};
+ghost use Rattle.captions.specs.Flat.{flatVerdict, flatText, flatCount, flatStep, noCue, flatHeld, msOf, flatPacked, flatUnpacked, flatFile, flatChecked, flatWvttEntry, flatWritten, flatFields, noFields, flatTx3gEntry, flatFont, noContent, flatContent, plainRun, flatRun, boxOf, noBox, flatSpot, noStyle, flatStyled, modifierOf, flatModifier, noModifier, flatModified};
 
 #[repr(C)]
 pub struct CaptionsCount {
@@ -96,6 +98,14 @@ pub struct CaptionsUnpacked {
     pub record_bytes: usize,
     pub pool_bytes: usize,
     pub t: u32,
+}
+
+#[repr(C)]
+pub struct CaptionsVttRead {
+    pub refusal: Refusal,
+    pub cues: usize,
+    pub record_bytes: usize,
+    pub pool_bytes: usize,
 }
 
 #[repr(C)]
@@ -367,6 +377,29 @@ fn flat_unpacked(u: Unpacked) -> CaptionsUnpacked
             record_bytes: 0,
             pool_bytes: 0,
             t: 0,
+        },
+    }
+}
+
+fn flat_file(f: FileRead) -> CaptionsVttRead
+    ensures { λ r. ⌜ r ≡ flatFile f ⌝ }
+{
+    match f {
+        FileRead::Done {
+            cues,
+            records,
+            pool,
+        } => CaptionsVttRead {
+            refusal: fault_at(0, 0),
+            cues,
+            record_bytes: records,
+            pool_bytes: pool,
+        },
+        FileRead::Refused(why) => CaptionsVttRead {
+            refusal: why,
+            cues: 0,
+            record_bytes: 0,
+            pool_bytes: 0,
         },
     }
 }
@@ -1009,6 +1042,29 @@ pub extern "C" fn captions_wvtt_check(
     ensures { λ r. ⌜ r ≡ flatChecked (checked scale t (now (records .entry)) (now (pool .entry)) (now (table .entry)) (now (samples .entry))) ⌝ }
 {
     flat_checked(conform::check_track(scale, t, records, pool, table, samples))
+}
+
+// The lengths that `captions_vtt_read` needs, or its refusal.
+#[no_mangle]
+pub extern "C" fn captions_vtt_read_room(file: &[u8]) -> CaptionsVttRead
+    ensures { λ r. ⌜ r ≡ flatFile (readRoom (now (file .entry))) ⌝ }
+{
+    flat_file(vtt_read::read_room(file))
+}
+
+// Reads a WebVTT file into records and their pool.
+#[no_mangle]
+pub extern "C" fn captions_vtt_read(
+    file: &[u8],
+    records: &mut [u8],
+    pool: &mut [u8],
+) -> CaptionsVttRead
+    ensures { λ r. ⌜ r ≡ flatFile (readOf (now (file .entry)) (length (now (records .entry))) (length (now (pool .entry)))) ⌝ }
+    ensures { λ r. ⌜ now (records .exit) ≡ fileOut (readOf (now (file .entry)) (length (now (records .entry))) (length (now (pool .entry)))) (fileRecords (now (file .entry))) (now (records .entry)) ⌝ }
+    ensures { λ r. ⌜ now (pool .exit) ≡ fileOut (readOf (now (file .entry)) (length (now (records .entry))) (length (now (pool .entry)))) (filePool (now (file .entry))) (now (pool .entry)) ⌝ }
+{
+    let f = vtt_read::read(file, &mut *records, &mut *pool);
+    flat_file(f)
 }
 
 #[no_mangle]

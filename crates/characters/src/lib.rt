@@ -1,5 +1,6 @@
 // The characters of a 3GPP text: UTF-16 after the mark FE FF, else UTF-8.
 use ascii::is_ascii;
+use ascii::is_within;
 use text::agreeing;
 use utf8::Rule;
 use utf8::judge_rule;
@@ -8,7 +9,7 @@ ghost use mathlib.Core.Path.{_≡_};
 ghost use mathlib.Core.Bool.{true};
 ghost use Prim.Native.Nat.{_+_, _-_, _≤_};
 ghost use lib.ListN.{length};
-ghost use Rattle.base.specs.Choice.{pick, within};
+ghost use Rattle.base.specs.Choice.{pick};
 ghost use Rattle.viable.specs.FirstBad.{judgedBy};
 ghost use Rattle.utf8.specs.Utf8.{utf8, utf8Begun};
 ghost use Rattle.utf8.specs.Strings.{startsWith};
@@ -20,15 +21,6 @@ pub enum Counted {
     Characters(usize),
     // Bytes that are neither UTF-8 nor UTF-16 after its mark, and the first bad one.
     Bad(usize),
-}
-
-fn is_within(lo: u8, hi: u8, b: u8) -> bool
-    ensures { λ r. ⌜ r ≡ within lo hi b ⌝ }
-{
-    if b < lo {
-        return false;
-    }
-    b <= hi
 }
 
 // 1 for a byte that begins a character of UTF-8, else 0.

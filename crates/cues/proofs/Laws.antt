@@ -6,18 +6,20 @@ use mathlib.Core.List.{List}
 use native.Mathlib.Omega.{arith}
 use borrow.Author.Count.{below-more}
 use borrow.Author.Tests.{eq-eqb, ne-eqb, eqb-true, eqb-false, ltb-false}
-use lib.Dec.{eqb, ltb}
+use lib.Dec.{eqb}
 use lib.ListN.{length, take, drop, getD, set, length-set}
 use lib.Seq.{getD-set-same, getD-set-other}
 use Rattle.base.proofs.Choice.{by-test, true-false}
 use Rattle.base.proofs.First.{first-none, first-some}
 use Rattle.verdict.specs.declared.Verdict.the-variants.{Fine}
 use Rattle.verdict.specs.Judgement.{refuse}
-use Rattle.records.specs.Records.{sourceId, startMs, textsEnd, piece}
-use Rattle.cues.specs.Judgement.{pastPool, startFalls, found, stoodEarlier, twiceAt, judgeIds}
+use Rattle.records.specs.Records.{sourceId, startMs, endMs, textOffset, settingsOffset, payloadOffset, textsEnd, identifierLength, settingsLength, payloadLength, identifierOf, settingsOf, payloadOf, piece}
+use Rattle.records.proofs.Laws.{in-order}
+use Rattle.cues.specs.Caption.{caption, judgeContent}
+use Rattle.cues.specs.Judgement.{pastPool, startBefore, captionOf, found, stoodEarlier, twiceAt, judgeIds}
 
 -- the part from x to x + n
-pub part-is : (pool : List ℕ) (a b x n : ℕ) → a ≡ x → b ≡ x + n → take (b - a) (drop a pool) ≡ piece pool x n
+part-is : (pool : List ℕ) (a b x n : ℕ) → a ≡ x → b ≡ x + n → take (b - a) (drop a pool) ≡ piece pool x n
 unfolding piece
 part-is pool a b x n p q =
     let e : b - a ≡ n = omega arith in
@@ -27,13 +29,22 @@ pub in-pool : (recs pool : List ℕ) (i : ℕ) → pastPool recs pool i ≡ fals
 unfolding pastPool
 in-pool recs pool i h = ltb-false (length pool) (textsEnd recs i) h
 
--- after the first record the start is compared with the one before
-pub falls-at : (recs : List ℕ) (i x y : ℕ) → (i ≡ 0 → ⊥) → x ≡ startMs recs i → y ≡ startMs recs (i - 1) → ltb x y ≡ startFalls recs i
-unfolding startFalls
-falls-at recs zero x y h p q = absurd (h refl)
-falls-at recs (suc i) x y h p q =
+-- the start before a record that is not the first
+pub before-at : (recs : List ℕ) (i x : ℕ) → (i ≡ 0 → ⊥) → x ≡ startMs recs (i - 1) → x ≡ startBefore recs i
+unfolding startBefore
+before-at recs zero x h p = absurd (h refl)
+before-at recs (suc i) x h p =
     let e : suc i - 1 ≡ i = omega arith in
-    rw (p, q, e)
+    p ∙ ap (startMs recs) e
+
+-- the parts of the pool that are judged are the texts of the record's caption
+pub content-is : (scale T i : ℕ) (recs pool : List ℕ) (a b e l before start end : ℕ)
+    → a ≡ textOffset recs i → b ≡ settingsOffset recs i → e ≡ payloadOffset recs i → l ≡ textsEnd recs i → before ≡ startBefore recs i → start ≡ startMs recs i → end ≡ endMs recs i
+    → judgeContent scale T before (caption start end (take (b - a) (drop a pool)) (take (e - b) (drop b pool)) (take (l - e) (drop e pool))) i ≡ judgeContent scale T (startBefore recs i) (captionOf recs pool i) i
+unfolding captionOf identifierOf settingsOf payloadOf
+content-is scale T i recs pool a b e l before start end p q r s t u v =
+    let o = in-order recs i in
+    rw (part-is pool a b (textOffset recs i) (identifierLength recs i) p (q ∙ o .settings-at), part-is pool b e (settingsOffset recs i) (settingsLength recs i) q (r ∙ o .payload-at), part-is pool e l (payloadOffset recs i) (payloadLength recs i) r (s ∙ o .end-at), t, u, v)
 
 -- no record before j has the ID of record i
 abbrev pub Fresh : List ℕ → ℕ → ℕ → Type 0

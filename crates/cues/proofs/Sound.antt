@@ -1,4 +1,4 @@
--- The judgement finds no fault exactly in the sound lists, and the cues of a sound list are proper.
+-- The judgements find no fault exactly in sound captions and sound lists, and the cues of a sound list are proper.
 use Prim.Native.Nat.{ℕ, zero, suc, _+_, _-_, _%_, _<_, _≤_}
 use mathlib.Core.Path.{_≡_, refl, sym, ap, _∙_}
 use mathlib.Core.Logic.{_≢_}
@@ -20,97 +20,137 @@ use Rattle.text.specs.Beginnings.{identifierBegun, payloadBegun}
 use Rattle.times.specs.Times.{tick, timelineAllowed}
 use Rattle.times.proofs.Laws.{timeline-limits, limits-timeline, tick-mono}
 use Rattle.verdict.specs.declared.Verdict.the-variants.{Fine}
-use Rattle.verdict.specs.Judgement.{_gives_at_, textAt, each}
-use Rattle.verdict.proofs.Judgement.{then-fine, both-fine, text-fine, text-right, each-fine, each-all}
+use Rattle.verdict.specs.Judgement.{_gives_at_, textAt, _then_, each}
+use Rattle.verdict.proofs.Judgement.{then-fine, both-fine, not-given, text-fine, text-right, each-fine, each-all}
 use Rattle.timeline.specs.Cues.{Cue, Proper, Named}
 use Rattle.timeline.proofs.Listing.{length-listed, mem-listed, listed-pairs}
-use Rattle.records.specs.Records.{count, sourceId, startMs, endMs, identifierLength, settingsLength, payloadLength, reserved, textsEnd, identifierOf, settingsOf, payloadOf}
-use Rattle.cues.specs.Judgement.{badValue, tooLong, pastPool, judgeTexts, badTime, startFalls, judgeRecord, found, stoodEarlier, twiceAt, judgeIds, judgeList}
+use Rattle.records.specs.Records.{count, sourceId, startMs, endMs, identifierLength, settingsLength, payloadLength, reserved, textsEnd}
+use Rattle.records.proofs.Laws.{text-lengths}
+use Rattle.cues.specs.Caption.{Caption, longTexts, judgeTexts, badTimes, judgeContent, judgeCaption, SoundCaption, CaptionFineIff}
+use Rattle.cues.specs.Judgement.{badValue, pastPool, captionOf, startBefore, judgeRecord, found, stoodEarlier, twiceAt, judgeIds, judgeList}
 use Rattle.cues.specs.List.{bodyOf, cueOf, cuesOf, SoundRecord, Sound, FineIff, SoundProper}
-
--- a test that gives no fault
-no-fault : (b : Bool) (n p : ℕ) → b gives n at p ≡ Fine → b ≡ false
-no-fault true n p e = let z : _≡_ {A = ℕ} 0 1 = cc in absurd (omega arith)
-no-fault false n p e = refl
 
 neither : (a b : Bool) → one-of a b ≡ false → (a ≡ false) × (b ≡ false)
 neither true b e = let z : _≡_ {A = ℕ} 0 1 = cc in absurd (omega arith)
 neither false b e = (refl, e)
 
-not-falls : (recs : List ℕ) (i : ℕ) → startFalls recs i ≡ false → (j : ℕ) → i ≡ suc j → startMs recs j ≤ startMs recs i
-unfolding startFalls
+module _ (scale T before p : ℕ) (c : Caption) where
+  caption-sound : judgeCaption scale T before c p ≡ Fine → SoundCaption scale T before c
+  unfolding judgeCaption longTexts judgeContent judgeTexts badTimes
+  caption-sound e =
+      let i = length (c .identifier) in
+      let s = length (c .settings) in
+      let t = length (c .payload) in
+      let a1 = both-fine (longTexts i s t gives 9 at p) _ e in
+      let a2 = both-fine (judgeTexts (c .identifier) (c .settings) (c .payload) p) _ (a1 .1) in
+      let a3 = both-fine (badTimes scale T (c .start) (c .end) gives 10 at p) (ltb (c .start) before gives 11 at p) (a2 .1) in
+      let long = neither (ltb 255 i) (one-of (ltb 255 s) (ltb 4095 t)) (not-given (longTexts i s t) 9 p (a1 .0)) in
+      let long2 = neither (ltb 255 s) (ltb 4095 t) (long .1) in
+      let text = both-fine (textAt p (judgedBy identifierText identifierBegun (c .identifier))) _ (a2 .0) in
+      let text2 = both-fine (textAt p (judgedBy identifierText identifierBegun (c .settings))) _ (text .1) in
+      let time = neither (leb (c .end) (c .start)) (one-of (ltb T (c .end)) (leb (tick scale (c .end)) (tick scale (c .start)))) (not-given (badTimes scale T (c .start) (c .end)) 10 p (a3 .0)) in
+      let time2 = neither (ltb T (c .end)) (leb (tick scale (c .end)) (tick scale (c .start))) (time .1) in
+      record {
+        identifier-most = ltb-false 255 i (long .0);
+        settings-most = ltb-false 255 s (long2 .0);
+        payload-most = ltb-false 4095 t (long2 .1);
+        identifier-right = text-fine identifierText identifierBegun p _ (text .0);
+        settings-right = text-fine identifierText identifierBegun p _ (text2 .0);
+        payload-right = text-fine payloadText payloadBegun p _ (text2 .1);
+        lasts = leb-false (c .end) (c .start) (time .0);
+        ends = ltb-false T (c .end) (time2 .0);
+        ticks = leb-false (tick scale (c .end)) (tick scale (c .start)) (time2 .1);
+        follows = ltb-false (c .start) before (not-given (ltb (c .start) before) 11 p (a3 .1));
+      }
+
+  sound-caption : SoundCaption scale T before c → judgeCaption scale T before c p ≡ Fine
+  unfolding judgeCaption longTexts judgeContent judgeTexts badTimes
+  sound-caption s =
+      simp (
+        le-ltb 255 (length (c .identifier)) (s .identifier-most),
+        le-ltb 255 (length (c .settings)) (s .settings-most),
+        le-ltb 4095 (length (c .payload)) (s .payload-most),
+        text-right identifierText identifierBegun p (c .identifier) (s .identifier-right),
+        text-right identifierText identifierBegun p (c .settings) (s .settings-right),
+        text-right payloadText payloadBegun p (c .payload) (s .payload-right),
+        lt-leb (c .end) (c .start) (s .lasts),
+        le-ltb T (c .end) (s .ends),
+        lt-leb (tick scale (c .end)) (tick scale (c .start)) (s .ticks),
+        le-ltb (c .start) before (s .follows),
+      )
+
+pub caption-fine-iff : CaptionFineIff
+caption-fine-iff scale T before p c = (caption-sound scale T before p c, sound-caption scale T before p c)
+
+-- the start before a record, and the record before it
+not-falls : (recs : List ℕ) (i : ℕ) → startBefore recs i ≤ startMs recs i → (j : ℕ) → i ≡ suc j → startMs recs j ≤ startMs recs i
+unfolding startBefore
 not-falls recs zero h j e = absurd (omega arith)
-not-falls recs (suc i) h j e =
-    let k : i ≡ j = omega arith in
-    rw (← k) (ltb-false (startMs recs (suc i)) (startMs recs i) h)
+not-falls recs (suc i) h j e = let k : i ≡ j = omega arith in rw (← k) h
 
-falls-not : (recs : List ℕ) (i : ℕ) → ((j : ℕ) → i ≡ suc j → startMs recs j ≤ startMs recs i) → startFalls recs i ≡ false
-unfolding startFalls
-falls-not recs zero h = refl
-falls-not recs (suc i) h = le-ltb (startMs recs (suc i)) (startMs recs i) (h i refl)
-
--- the texts have no fault exactly if each keeps its rule
-module _ (recs pool : List ℕ) (i : ℕ) where
-  texts-fine : judgeTexts recs pool i ≡ Fine → (identifierText (identifierOf recs pool i) ≡ true) × (identifierText (settingsOf recs pool i) ≡ true) × (payloadText (payloadOf recs pool i) ≡ true)
-  unfolding judgeTexts
-  texts-fine e =
-      let a = both-fine (textAt i (judgedBy identifierText identifierBegun (identifierOf recs pool i))) _ e in
-      let b = both-fine (textAt i (judgedBy identifierText identifierBegun (settingsOf recs pool i))) _ (a .1) in
-      (text-fine identifierText identifierBegun i _ (a .0), text-fine identifierText identifierBegun i _ (b .0), text-fine payloadText payloadBegun i _ (b .1))
-
-  texts-right : identifierText (identifierOf recs pool i) ≡ true → identifierText (settingsOf recs pool i) ≡ true → payloadText (payloadOf recs pool i) ≡ true → judgeTexts recs pool i ≡ Fine
-  unfolding judgeTexts
-  texts-right a b c =
-      then-fine _ _ (text-right identifierText identifierBegun i _ a) ∙ then-fine _ _ (text-right identifierText identifierBegun i _ b) ∙ text-right payloadText payloadBegun i _ c
+falls-not : (recs : List ℕ) (i : ℕ) → ((j : ℕ) → i ≡ suc j → startMs recs j ≤ startMs recs i) → startBefore recs i ≤ startMs recs i
+unfolding startBefore
+falls-not recs zero h = omega arith
+falls-not recs (suc i) h = h i refl
 
 module _ (scale T : ℕ) (recs pool : List ℕ) (i : ℕ) where
+  -- a record whose texts lie within the pool: 9 and what comes behind 1 judge its caption
+  caption-at : textsEnd recs i ≤ length pool → judgeCaption scale T (startBefore recs i) (captionOf recs pool i) i
+      ≡ (longTexts (identifierLength recs i) (settingsLength recs i) (payloadLength recs i) gives 9 at i then judgeContent scale T (startBefore recs i) (captionOf recs pool i) i)
+  unfolding judgeCaption captionOf
+  caption-at h = let l = text-lengths recs pool i h in rw (l .0, l .1, l .2)
+
   record-sound : judgeRecord scale T recs pool i ≡ Fine → SoundRecord scale T recs pool i
-  unfolding judgeRecord badValue tooLong pastPool badTime
+  unfolding judgeRecord badValue pastPool captionOf
   record-sound e =
       let a1 = both-fine (badValue recs i gives 8 at i) _ e in
-      let a2 = both-fine (tooLong recs i gives 9 at i) _ (a1 .1) in
+      let a2 = both-fine (longTexts (identifierLength recs i) (settingsLength recs i) (payloadLength recs i) gives 9 at i) _ (a1 .1) in
       let a3 = both-fine (pastPool recs pool i gives 1 at i) _ (a2 .1) in
-      let a4 = both-fine (judgeTexts recs pool i) _ (a3 .1) in
-      let a5 = both-fine (badTime scale T recs i gives 10 at i) (startFalls recs i gives 11 at i) (a4 .1) in
-      let value = neither (leb 2147483648 (sourceId recs i)) (ltb 0 (reserved recs i)) (no-fault (badValue recs i) 8 i (a1 .0)) in
-      let long = neither (ltb 255 (identifierLength recs i)) (one-of (ltb 255 (settingsLength recs i)) (ltb 4095 (payloadLength recs i))) (no-fault (tooLong recs i) 9 i (a2 .0)) in
-      let long2 = neither (ltb 255 (settingsLength recs i)) (ltb 4095 (payloadLength recs i)) (long .1) in
-      let text = texts-fine recs pool i (a4 .0) in
-      let time = neither (leb (endMs recs i) (startMs recs i)) (one-of (ltb T (endMs recs i)) (leb (tick scale (endMs recs i)) (tick scale (startMs recs i)))) (no-fault (badTime scale T recs i) 10 i (a5 .0)) in
-      let time2 = neither (ltb T (endMs recs i)) (leb (tick scale (endMs recs i)) (tick scale (startMs recs i))) (time .1) in
+      let value = neither (leb 2147483648 (sourceId recs i)) (ltb 0 (reserved recs i)) (not-given (badValue recs i) 8 i (a1 .0)) in
       let zero-most = ltb-false 0 (reserved recs i) (value .1) in
+      let inside = ltb-false (length pool) (textsEnd recs i) (not-given (pastPool recs pool i) 1 i (a3 .0)) in
+      let l = text-lengths recs pool i inside in
+      let s = caption-sound scale T (startBefore recs i) i (captionOf recs pool i) (caption-at inside ∙ then-fine _ _ (a2 .0) ∙ a3 .1) in
       record {
         id-below = leb-false 2147483648 (sourceId recs i) (value .0);
         zeros = omega arith;
-        identifier-most = ltb-false 255 (identifierLength recs i) (long .0);
-        settings-most = ltb-false 255 (settingsLength recs i) (long2 .0);
-        payload-most = ltb-false 4095 (payloadLength recs i) (long2 .1);
-        inside = ltb-false (length pool) (textsEnd recs i) (no-fault (pastPool recs pool i) 1 i (a3 .0));
-        identifier-right = text .0;
-        settings-right = text .1;
-        payload-right = text .2;
-        lasts = leb-false (endMs recs i) (startMs recs i) (time .0);
-        ends = ltb-false T (endMs recs i) (time2 .0);
-        ticks = leb-false (tick scale (endMs recs i)) (tick scale (startMs recs i)) (time2 .1);
-        follows = not-falls recs i (no-fault (startFalls recs i) 11 i (a5 .1));
+        identifier-most = rw (← l .0) (s .identifier-most);
+        settings-most = rw (← l .1) (s .settings-most);
+        payload-most = rw (← l .2) (s .payload-most);
+        inside = inside;
+        identifier-right = s .identifier-right;
+        settings-right = s .settings-right;
+        payload-right = s .payload-right;
+        lasts = s .lasts;
+        ends = s .ends;
+        ticks = s .ticks;
+        follows = not-falls recs i (s .follows);
       }
 
   sound-record : SoundRecord scale T recs pool i → judgeRecord scale T recs pool i ≡ Fine
-  unfolding judgeRecord badValue tooLong pastPool badTime
+  unfolding judgeRecord badValue pastPool captionOf
   sound-record s =
       let z : reserved recs i ≤ 0 = omega (arith, s .zeros) in
+      let l = text-lengths recs pool i (s .inside) in
+      let fine : judgeCaption scale T (startBefore recs i) (captionOf recs pool i) i ≡ Fine = sound-caption scale T (startBefore recs i) i (captionOf recs pool i) (record {
+        identifier-most = rw (l .0) (s .identifier-most);
+        settings-most = rw (l .1) (s .settings-most);
+        payload-most = rw (l .2) (s .payload-most);
+        identifier-right = s .identifier-right;
+        settings-right = s .settings-right;
+        payload-right = s .payload-right;
+        lasts = s .lasts;
+        ends = s .ends;
+        ticks = s .ticks;
+        follows = falls-not recs i (s .follows);
+      }) in
+      let both = both-fine (longTexts (identifierLength recs i) (settingsLength recs i) (payloadLength recs i) gives 9 at i) _ (sym (caption-at (s .inside)) ∙ fine) in
       simp (
         lt-leb 2147483648 (sourceId recs i) (s .id-below),
         le-ltb 0 (reserved recs i) z,
-        le-ltb 255 (identifierLength recs i) (s .identifier-most),
-        le-ltb 255 (settingsLength recs i) (s .settings-most),
-        le-ltb 4095 (payloadLength recs i) (s .payload-most),
+        both .0,
         le-ltb (length pool) (textsEnd recs i) (s .inside),
-        texts-right recs pool i (s .identifier-right) (s .settings-right) (s .payload-right),
-        lt-leb (endMs recs i) (startMs recs i) (s .lasts),
-        le-ltb T (endMs recs i) (s .ends),
-        lt-leb (tick scale (endMs recs i)) (tick scale (startMs recs i)) (s .ticks),
-        falls-not recs i (s .follows),
+        both .1,
       )
 
 -- a search that finds none
@@ -153,11 +193,11 @@ module _ (scale T : ℕ) (recs pool : List ℕ) where
       let a2 = both-fine (ltb 0 (length recs % 24) gives 1 at 0) _ (a1 .1) in
       let a3 = both-fine (ltb 1024 (count recs) gives 9 at 0) _ (a2 .1) in
       let a4 = both-fine (each (judgeRecord scale T recs pool) (count recs)) (judgeIds recs (count recs)) (a3 .1) in
-      let w = ltb-false 0 (length recs % 24) (no-fault (ltb 0 (length recs % 24)) 1 0 (a2 .0)) in
+      let w = ltb-false 0 (length recs % 24) (not-given (ltb 0 (length recs % 24)) 1 0 (a2 .0)) in
       record {
-        limits = timeline-limits scale T (not-false (timelineAllowed scale T) (no-fault (not (timelineAllowed scale T)) 10 0 (a1 .0)));
+        limits = timeline-limits scale T (not-false (timelineAllowed scale T) (not-given (not (timelineAllowed scale T)) 10 0 (a1 .0)));
         whole = omega arith;
-        few = ltb-false 1024 (count recs) (no-fault (ltb 1024 (count recs)) 9 0 (a3 .0));
+        few = ltb-false 1024 (count recs) (not-given (ltb 1024 (count recs)) 9 0 (a3 .0));
         records = λ i l. record-sound scale T recs pool i (each-fine (judgeRecord scale T recs pool) (count recs) i (a4 .0) l);
         distinct = ids-distinct recs (count recs) (a4 .1);
       }

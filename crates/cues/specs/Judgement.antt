@@ -7,52 +7,37 @@ use lib.Dec.{leb, ltb, eqb}
 use lib.ListN.{length}
 use Rattle.base.specs.Choice.{one-of}
 use Rattle.base.specs.First.{first}
-use Rattle.viable.specs.FirstBad.{judgedBy}
-use Rattle.text.specs.Rules.{identifierText, payloadText}
-use Rattle.text.specs.Beginnings.{identifierBegun, payloadBegun}
-use Rattle.times.specs.Times.{tick, timelineAllowed}
+use Rattle.times.specs.Times.{timelineAllowed}
 use Rattle.verdict.specs.declared.Verdict.{Verdict}
 use Rattle.verdict.specs.declared.Verdict.the-variants.{Fine}
-use Rattle.verdict.specs.Judgement.{refuse, _gives_at_, textAt, _then_, each}
+use Rattle.verdict.specs.Judgement.{refuse, _gives_at_, _then_, each}
 use Rattle.records.specs.Records.{count, sourceId, startMs, endMs, identifierLength, settingsLength, payloadLength, reserved, textsEnd, identifierOf, settingsOf, payloadOf}
+use Rattle.cues.specs.Caption.{Caption, caption, longTexts, judgeContent}
 
 -- the ID is not below 2^31, or a reserved byte is not zero
 unfoldable pub badValue : List ℕ → ℕ → Bool
 badValue recs i = one-of (leb 2147483648 (sourceId recs i)) (ltb 0 (reserved recs i))
 
--- a text is longer than its limit
-unfoldable pub tooLong : List ℕ → ℕ → Bool
-tooLong recs i = one-of (ltb 255 (identifierLength recs i)) (one-of (ltb 255 (settingsLength recs i)) (ltb 4095 (payloadLength recs i)))
-
 -- offset plus lengths are past the pool
 unfoldable pub pastPool : List ℕ → List ℕ → ℕ → Bool
 pastPool recs pool i = ltb (length pool) (textsEnd recs i)
 
--- the texts by their rules; of a record's texts the first bad one counts
-unfoldable pub judgeTexts : List ℕ → List ℕ → ℕ → Verdict
-judgeTexts recs pool i =
-    textAt i (judgedBy identifierText identifierBegun (identifierOf recs pool i))
-    then textAt i (judgedBy identifierText identifierBegun (settingsOf recs pool i))
-    then textAt i (judgedBy payloadText payloadBegun (payloadOf recs pool i))
+-- the caption of record i
+unfoldable pub captionOf : List ℕ → List ℕ → ℕ → Caption
+captionOf recs pool i = caption (startMs recs i) (endMs recs i) (identifierOf recs pool i) (settingsOf recs pool i) (payloadOf recs pool i)
 
--- not start < end ≤ T, or the start's tick is not below the end's
-unfoldable pub badTime : ℕ → ℕ → List ℕ → ℕ → Bool
-badTime scale T recs i = one-of (leb (endMs recs i) (startMs recs i)) (one-of (ltb T (endMs recs i)) (leb (tick scale (endMs recs i)) (tick scale (startMs recs i))))
+-- the start of the record before, 0 where there is none
+unfoldable pub startBefore : List ℕ → ℕ → ℕ
+startBefore recs zero = 0
+startBefore recs (suc i) = startMs recs i
 
--- the start is below the one of the record before
-unfoldable pub startFalls : List ℕ → ℕ → Bool
-startFalls recs zero = false
-startFalls recs (suc i) = ltb (startMs recs (suc i)) (startMs recs i)
-
--- each record: 8, 9, 1, 6, 10, 11, place its index
+-- each record: 8, 9, 1, then its caption: 6, 10, 11; place its index
 unfoldable pub judgeRecord : ℕ → ℕ → List ℕ → List ℕ → ℕ → Verdict
 judgeRecord scale T recs pool i =
     badValue recs i gives 8 at i
-    then tooLong recs i gives 9 at i
+    then longTexts (identifierLength recs i) (settingsLength recs i) (payloadLength recs i) gives 9 at i
     then pastPool recs pool i gives 1 at i
-    then judgeTexts recs pool i
-    then badTime scale T recs i gives 10 at i
-    then startFalls recs i gives 11 at i
+    then judgeContent scale T (startBefore recs i) (captionOf recs pool i) i
 
 abbrev pub found : Option ℕ → Bool
 found none = false

@@ -1,2 +1,3 @@
+pub mod Caption
 pub mod Judgement
 pub mod List

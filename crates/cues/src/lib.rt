@@ -1,4 +1,4 @@
-// The judgement of a list of cue records.
+// The judgement of a caption and of a list of cue records.
 use records::end_ms;
 use records::identifier_length;
 use records::payload_length;
@@ -22,9 +22,77 @@ ghost use Prim.Native.Nat.{_+_, _*_, _≤_, _<_};
 ghost use lib.ListN.{length};
 ghost use Rattle.verdict.specs.Judgement.{each};
 ghost use Rattle.records.specs.Records.{textsEnd};
-ghost use Rattle.cues.specs.Judgement.{badValue, tooLong, pastPool, judgeTexts, badTime, startFalls, judgeRecord, judgeIds, judgeList};
+ghost use Rattle.cues.specs.Caption.{caption, longTexts, judgeTexts, badTimes, judgeContent};
+ghost use Rattle.cues.specs.Judgement.{badValue, pastPool, startBefore, captionOf, judgeRecord, judgeIds, judgeList};
 
-// The tests of the judgement, one by one.
+// By the lengths of the three texts.
+pub fn long_texts(identifier: usize, settings: usize, payload: usize) -> bool
+    ensures { λ r. ⌜ r ≡ longTexts identifier settings payload ⌝ }
+{
+    if 255 < identifier {
+        return true;
+    }
+    if 255 < settings {
+        return true;
+    }
+    4095 < payload
+}
+
+// The texts, from the first on.
+fn judge_texts(identifier: &[u8], settings: &[u8], payload: &[u8], place: usize) -> Verdict
+    ensures { λ r. ⌜ r ≡ judgeTexts (now (identifier .entry)) (now (settings .entry)) (now (payload .entry)) place ⌝ }
+{
+    let first = text_at(place, judge_identifier(identifier));
+    let Verdict::Fine = first else {
+        return first;
+    };
+    let second = text_at(place, judge_identifier(settings));
+    let Verdict::Fine = second else {
+        return second;
+    };
+    text_at(place, judge_payload(payload))
+}
+
+fn bad_times(scale: u32, t: u32, start: u32, end: u32) -> bool
+    ensures { λ r. ⌜ r ≡ badTimes scale t start end ⌝ }
+{
+    if end <= start {
+        return true;
+    }
+    if t < end {
+        return true;
+    }
+    tick_of(scale, end) <= tick_of(scale, start)
+}
+
+// A caption whose texts are within their limits; the cue before starts at `before`, which is 0 where there is none.
+pub fn judge_content(
+    scale: u32,
+    t: u32,
+    before: u32,
+    start: u32,
+    end: u32,
+    identifier: &[u8],
+    settings: &[u8],
+    payload: &[u8],
+    place: usize,
+) -> Verdict
+    ensures { λ r. ⌜ r ≡ judgeContent scale t before (caption start end (now (identifier .entry)) (now (settings .entry)) (now (payload .entry))) place ⌝ }
+{
+    let texts = judge_texts(identifier, settings, payload, place);
+    let Verdict::Fine = texts else {
+        return texts;
+    };
+    if bad_times(scale, t, start, end) {
+        return refused(10, place);
+    }
+    if start < before {
+        return refused(11, place);
+    }
+    Verdict::Fine
+}
+
+// The tests of a record.
 fn bad_value(records: &[u8], i: usize) -> bool
     requires { ⌜ i * 24 + 24 ≤ length (now records) ⌝ }
     ensures { λ r. ⌜ r ≡ badValue (now (records .entry)) i ⌝ }
@@ -35,19 +103,6 @@ fn bad_value(records: &[u8], i: usize) -> bool
     0 < reserved_bytes(records, i)
 }
 
-fn too_long(records: &[u8], i: usize) -> bool
-    requires { ⌜ i * 24 + 24 ≤ length (now records) ⌝ }
-    ensures { λ r. ⌜ r ≡ tooLong (now (records .entry)) i ⌝ }
-{
-    if 255 < identifier_length(records, i) {
-        return true;
-    }
-    if 255 < settings_length(records, i) {
-        return true;
-    }
-    4095 < payload_length(records, i)
-}
-
 fn past_pool(records: &[u8], pool: &[u8], i: usize) -> bool
     requires { ⌜ i * 24 + 24 ≤ length (now records) ⌝ }
     ensures { λ r. ⌜ r ≡ pastPool (now (records .entry)) (now (pool .entry)) i ⌝ }
@@ -55,49 +110,36 @@ fn past_pool(records: &[u8], pool: &[u8], i: usize) -> bool
     pool.len() < texts_end(records, i)
 }
 
-// The texts of record i, from the first on.
-fn judge_texts(records: &[u8], pool: &[u8], i: usize) -> Verdict
+fn start_before(records: &[u8], i: usize) -> u32
+    requires { ⌜ i * 24 + 24 ≤ length (now records) ⌝ }
+    ensures { λ r. ⌜ r ≡ startBefore (now (records .entry)) i ⌝ }
+{
+    if i == 0 {
+        return 0;
+    }
+    start_ms(records, i - 1)
+}
+
+// The caption of record i, whose texts lie in the pool.
+fn judge_pooled(scale: u32, t: u32, records: &[u8], pool: &[u8], i: usize) -> Verdict
     requires { ⌜ (i * 24 + 24 ≤ length (now records)) × (textsEnd (now records) i ≤ length (now pool)) ⌝ }
-    ensures { λ r. ⌜ r ≡ judgeTexts (now (records .entry)) (now (pool .entry)) i ⌝ }
+    ensures { λ r. ⌜ r ≡ judgeContent scale t (startBefore (now (records .entry)) i) (captionOf (now (records .entry)) (now (pool .entry)) i) i ⌝ }
 {
     let identifier = text_offset(records, i) as usize;
     let settings = settings_offset(records, i);
     let payload = payload_offset(records, i);
-    let end = texts_end(records, i);
-    let first = text_at(i, judge_identifier(&pool[identifier..settings]));
-    let Verdict::Fine = first else {
-        return first;
-    };
-    let second = text_at(i, judge_identifier(&pool[settings..payload]));
-    let Verdict::Fine = second else {
-        return second;
-    };
-    text_at(i, judge_payload(&pool[payload..end]))
-}
-
-fn bad_time(scale: u32, t: u32, records: &[u8], i: usize) -> bool
-    requires { ⌜ i * 24 + 24 ≤ length (now records) ⌝ }
-    ensures { λ r. ⌜ r ≡ badTime scale t (now (records .entry)) i ⌝ }
-{
-    let start = start_ms(records, i);
-    let end = end_ms(records, i);
-    if end <= start {
-        return true;
-    }
-    if t < end {
-        return true;
-    }
-    tick_of(scale, end) <= tick_of(scale, start)
-}
-
-fn start_falls(records: &[u8], i: usize) -> bool
-    requires { ⌜ i * 24 + 24 ≤ length (now records) ⌝ }
-    ensures { λ r. ⌜ r ≡ startFalls (now (records .entry)) i ⌝ }
-{
-    if i == 0 {
-        return false;
-    }
-    start_ms(records, i) < start_ms(records, i - 1)
+    let last = texts_end(records, i);
+    judge_content(
+        scale,
+        t,
+        start_before(records, i),
+        start_ms(records, i),
+        end_ms(records, i),
+        &pool[identifier..settings],
+        &pool[settings..payload],
+        &pool[payload..last],
+        i,
+    )
 }
 
 fn judge_record(scale: u32, t: u32, records: &[u8], pool: &[u8], i: usize) -> Verdict
@@ -107,23 +149,17 @@ fn judge_record(scale: u32, t: u32, records: &[u8], pool: &[u8], i: usize) -> Ve
     if bad_value(records, i) {
         return refused(8, i);
     }
-    if too_long(records, i) {
+    if long_texts(
+        identifier_length(records, i) as usize,
+        settings_length(records, i) as usize,
+        payload_length(records, i) as usize,
+    ) {
         return refused(9, i);
     }
     if past_pool(records, pool, i) {
         return refused(1, i);
     }
-    let texts = judge_texts(records, pool, i);
-    let Verdict::Fine = texts else {
-        return texts;
-    };
-    if bad_time(scale, t, records, i) {
-        return refused(10, i);
-    }
-    if start_falls(records, i) {
-        return refused(11, i);
-    }
-    Verdict::Fine
+    judge_pooled(scale, t, records, pool, i)
 }
 
 fn judge_records(scale: u32, t: u32, records: &[u8], pool: &[u8], n: usize) -> Verdict

@@ -1,14 +1,14 @@
 -- Every refusal has a number of the table, and two places that say what they should.
 use Prim.Native.Nat.{ℕ, zero, suc, _+_, _-_, _%_, _≤_, _<_}
 use mathlib.Core.Path.{_≡_, refl, sym, ap, ap₂, _∙_, subst}
-use mathlib.Core.Logic.{inl, inr, _≢_}
+use mathlib.Core.Logic.{inl, inr, _≢_, ⊎-elim}
 use native.Mathlib.Omega.{arith}
 use mathlib.Core.Bool.{Bool, true, false, not}
 use mathlib.Core.Option.{Option, none, some}
-use mathlib.Core.List.{List, [], _∷_, _++_}
+use mathlib.Core.List.{List, [], _∷_, _++_, List·Memᴰ, List·Memᴰ·not-nil, List·Memᴰ·cases-cons}
 use lib.Dec.{ltb, leb, eqb}
 use borrow.Author.Tests.{leb-true, eqb-true, eqb-false, not-true}
-use lib.ListN.{length, getD, set}
+use lib.ListN.{length, drop, getD, set}
 use Rattle.base.specs.Choice.{pick, both, one-of}
 use Rattle.base.proofs.Choice.{both-left, both-right}
 use Rattle.base.specs.First.{first}
@@ -26,7 +26,7 @@ use Rattle.times.specs.Times.{tick, scaleAllowed, timelineAllowed}
 use Rattle.timeline.specs.Cues.{Body, Cue, sameBody}
 use Rattle.timeline.specs.Tracks.{Sample}
 use Rattle.timeline.specs.Unpacking.{Known, faulty, known, Unpacked as Listing, stopped, done, noCue, fresh, till, indexOf, hasId, hasNewer, goesOn, byIndex, ifNamed, readBody, onKnown, readAll, onRead, readFrom, unpack}
-use Rattle.records.specs.Records.{count, identifierOf, settingsOf, payloadOf}
+use Rattle.records.specs.Records.{count, startMs, endMs, identifierLength, settingsLength, payloadLength, identifierOf, settingsOf, payloadOf}
 use Rattle.characters.specs.Characters.{tx3gText, tx3gBegun, characterCount, countBy, charactersOf}
 use Rattle.boxes.specs.declared.Step.{Step}
 use Rattle.boxes.specs.declared.Step.the-variants.{Box, Refused as Stopped, End}
@@ -41,7 +41,8 @@ use Rattle.wvtt.specs.Kinds.{vttc, vtte, vsid, payl, line, single}
 use Rattle.wvtt_cues.specs.declared.Parts.{Parts}
 use Rattle.wvtt_cues.specs.Cues.{partsOf, ifWhole, innerOf, cueBy, nextCue}
 use Rattle.wvtt_entry.specs.Entry.{wvtt, vttC, vlab, judgeContent, inEntry, endEntry, judgeEntry}
-use Rattle.cues.specs.Judgement.{badValue, tooLong, pastPool, judgeTexts, badTime, startFalls, judgeRecord, stoodEarlier, twiceAt, judgeIds, judgeList}
+use Rattle.cues.specs.Caption.{longTexts, judgeTexts, badTimes as badCaptionTimes, judgeContent as judgeCaptionContent}
+use Rattle.cues.specs.Judgement.{badValue, pastPool, captionOf, startBefore, judgeRecord, stoodEarlier, twiceAt, judgeIds, judgeList}
 use Rattle.cues.specs.List.{cuesOf}
 use Rattle.track.specs.Track.{rowCount, durationOf, sizeOf, offsetOf, bytesOf, trackOf, placedAt, judgeRow, judgeTrack}
 use Rattle.timeline.specs.Checking.{Answer, accepted, wrong, short, check}
@@ -58,10 +59,16 @@ use Rattle.tx3g_rules.specs.Rules.{inRange, styleAt, endBefore, turnAt, timeBef
 use Rattle.tx3g_sample.specs.declared.Reading.{Reading}
 use Rattle.tx3g_sample.specs.declared.Reading.the-variants.{Good, BadEntry, BadSample}
 use Rattle.tx3g_sample.specs.Sample.{textEnd, counted, countedAt, charactersIn, fontsIn, judgeText as judgeTx3gText, inSample as inTx3gSample, modifiersOf, judgeModifiers, judgeSample as judgeTx3gSample, answerOf, readSample, verdictOf}
-use Rattle.unpack_write.specs.Records.{recordsOf, poolOf}
+use Rattle.records_write.specs.Records.{recordsOf, poolOf}
 use Rattle.unpack.specs.declared.Unpacked.{Unpacked}
 use Rattle.unpack.specs.declared.Unpacked.the-variants.{Done as Unpacks, Refused as NotUnpacked}
 use Rattle.unpack.specs.Unpacking.{trackCues, trackMs, badTimes, judgeTimes, judgeEnd, judgeUnpack, stopsAt, answerBy, doneWith, unpackRoom, roomed as roomedList, unpackOf}
+use Rattle.vtt_lines.specs.Lines.{linesOf, joined, filled as filledLines}
+use Rattle.vtt_timing.proofs.Grammar.{timing-means}
+use Rattle.vtt_read.specs.declared.FileRead.{FileRead}
+use Rattle.vtt_read.specs.declared.FileRead.the-variants.{Done as Reads, Refused as NotRead}
+use Rattle.vtt_read.specs.Reading.{unmarked, judgeFile, fileCues, fileRecords, filePool, answerBy as fileBy, readRoom, roomed as roomedFile, readOf}
+use Rattle.vtt_laws.proofs.Refused.{numbers, refused-why}
 use Rattle.tx3g_modifiers.specs.declared.Held.the-variants.{One}
 use Rattle.tx3g_modifiers.specs.Modifiers.{whole, modifierOf, nextModifier}
 use Rattle.tx3g_style.specs.declared.Styled.the-variants.{BadSample as SampleOf}
@@ -69,23 +76,33 @@ use Rattle.tx3g_style.specs.Style.{inForce, stylesOf, styledBy, styleOf, faultO
 use Rattle.wvtt_entry_write.specs.declared.Written.the-variants.{Done as WrittenDone, Refused as NotWritten}
 use Rattle.wvtt_entry_write.specs.Writing.{entrySize, judgeLabel, judgeTexts as judgeEntryTexts, judgeWritten, unlessFaulty as unlessWritten, roomOf, lent, writtenOf}
 use Rattle.tx3g_box.specs.TextBox.{boxesOf, spotIn, spotBy, spotOf}
-use Rattle.demands.specs.Offsets.{bodyAt, Inside, InSample, InEntry, InWritten, InRecord, InTrack, InText, InTx3g, Never}
-use Rattle.demands.specs.Refusals.{InTable, Listed, CheckListed, packing, unpacking, writing, ofBox, ofCue, ofModifier, RefusalsAre}
+use Rattle.demands.specs.Offsets.{bodyAt, Inside, InSample, InEntry, InWritten, InTexts, InRecord, InFile, InTrack, InText, InTx3g, Never}
+use Rattle.demands.specs.Refusals.{InTable, Listed, CheckListed, packing, unpacking, reading, writing, ofBox, ofCue, ofModifier, RefusalsAre}
 use Rattle.demands.proofs.Offsets.{offsets-are}
 
 -- ---- judgements
 
 -- a number of the table other than 6
 abbrev other : ℕ → Bool
-other n = both (both (leb 1 n) (leb n 17)) (not (eqb n 6))
+other n = both (both (leb 1 n) (leb n 19)) (not (eqb n 6))
 
 in-table : (n : ℕ) → other n ≡ true → InTable n
 in-table n h =
-    let w = both-left (both (leb 1 n) (leb n 17)) (not (eqb n 6)) h in
-    (leb-true 1 n (both-left (leb 1 n) (leb n 17) w), leb-true n 17 (both-right (leb 1 n) (leb n 17) w))
+    let w = both-left (both (leb 1 n) (leb n 19)) (not (eqb n 6)) h in
+    (leb-true 1 n (both-left (leb 1 n) (leb n 19) w), leb-true n 19 (both-right (leb 1 n) (leb n 19) w))
 
 not-six : (n : ℕ) → other n ≡ true → n ≢ 6
-not-six n h = eqb-false n 6 (not-true (eqb n 6) (both-right (both (leb 1 n) (leb n 17)) (not (eqb n 6)) h))
+not-six n h = eqb-false n 6 (not-true (eqb n 6) (both-right (both (leb 1 n) (leb n 19)) (not (eqb n 6)) h))
+
+allOther : List ℕ → Bool
+allOther [] = true
+allOther (n ∷ ns) = both (other n) (allOther ns)
+
+one-other : (n : ℕ) (ns : List ℕ) → allOther ns ≡ true → List·Memᴰ n ns → other n ≡ true
+unfolding allOther
+one-other n [] h m = absurd (List·Memᴰ·not-nil m)
+one-other n (k ∷ ns) h m =
+    ⊎-elim (λ e. ap other e ∙ both-left (other k) (allOther ns) h) (one-other n ns (both-right (other k) (allOther ns) h)) (List·Memᴰ·cases-cons m)
 
 -- a box of s that begins at p: what its header says
 AtBox : List ℕ → ℕ → ℕ → ℕ → ℕ → Type 0
@@ -446,24 +463,28 @@ after : (Says : ℕ → ℕ → Type 0) (v w : Verdict) → Listed Says v → (v
 after Says Fine w a b = b refl
 after Says (Refused r) w a b = a
 
-texts-listed : (records pool : List ℕ) (i : ℕ) → i < count records → Listed (InRecord records pool) (judgeTexts records pool i)
+texts-listed : (Says : ℕ → ℕ → Type 0) (identifier settings payload : List ℕ) (p : ℕ) → ((q : ℕ) → InTexts identifier settings payload q → Says p q)
+    → Listed Says (judgeTexts identifier settings payload p)
 unfolding judgeTexts
-texts-listed records pool i l =
+texts-listed Says identifier settings payload p told =
     let is = offsets-are .identifier in
-    after (InRecord records pool) (textAt i (judgedBy identifierText identifierBegun (identifierOf records pool i))) _
-    (text-at-listed (InRecord records pool) identifierText identifierBegun is i (identifierOf records pool i) (λ q f. (l, inl f)))
-    (λ a. after (InRecord records pool) (textAt i (judgedBy identifierText identifierBegun (settingsOf records pool i))) _
-    (text-at-listed (InRecord records pool) identifierText identifierBegun is i (settingsOf records pool i) (λ q f. (l, inr (inl (text-fine identifierText identifierBegun i _ a, f)))))
-    (λ b. text-at-listed (InRecord records pool) payloadText payloadBegun (offsets-are .payload) i (payloadOf records pool i)
-    (λ q f. (l, inr (inr (text-fine identifierText identifierBegun i _ a, text-fine identifierText identifierBegun i _ b, f))))))
+    after Says (textAt p (judgedBy identifierText identifierBegun identifier)) _
+    (text-at-listed Says identifierText identifierBegun is p identifier (λ q f. told q (inl f)))
+    (λ a. after Says (textAt p (judgedBy identifierText identifierBegun settings)) _
+    (text-at-listed Says identifierText identifierBegun is p settings (λ q f. told q (inr (inl (text-fine identifierText identifierBegun p _ a, f)))))
+    (λ b. text-at-listed Says payloadText payloadBegun (offsets-are .payload) p payload
+    (λ q f. told q (inr (inr (text-fine identifierText identifierBegun p _ a, text-fine identifierText identifierBegun p _ b, f))))))
 
 list-listed : (scale T : ℕ) (records pool : List ℕ) → Listed (InRecord records pool) (judgeList scale T records pool)
-unfolding judgeList judgeRecord judgeIds
+unfolding judgeList judgeRecord judgeCaptionContent captionOf judgeIds
 list-listed scale T records pool =
     more (InRecord records pool) (not (timelineAllowed scale T)) 10 0 _ refl (more (InRecord records pool) (ltb 0 (length records % 24)) 1 0 _ refl (more (InRecord records pool) (ltb 1024 (count records)) 9 0 _ refl
     (next (InRecord records pool) (each (judgeRecord scale T records pool) (count records)) _
-    (all (InRecord records pool) (judgeRecord scale T records pool) (count records) (λ i l. more (InRecord records pool) (badValue records i) 8 i _ refl (more (InRecord records pool) (tooLong records i) 9 i _ refl (more (InRecord records pool) (pastPool records pool i) 1 i _ refl
-    (next (InRecord records pool) (judgeTexts records pool i) _ (texts-listed records pool i l) (more (InRecord records pool) (badTime scale T records i) 10 i _ refl (given (InRecord records pool) (startFalls records i) 11 i refl)))))))
+    (all (InRecord records pool) (judgeRecord scale T records pool) (count records) (λ i l. more (InRecord records pool) (badValue records i) 8 i _ refl
+    (more (InRecord records pool) (longTexts (identifierLength records i) (settingsLength records i) (payloadLength records i)) 9 i _ refl (more (InRecord records pool) (pastPool records pool i) 1 i _ refl
+    (next (InRecord records pool) (judgeTexts (identifierOf records pool i) (settingsOf records pool i) (payloadOf records pool i) i) _
+    (texts-listed (InRecord records pool) (identifierOf records pool i) (settingsOf records pool i) (payloadOf records pool i) i (λ q f. (l, f)))
+    (more (InRecord records pool) (badCaptionTimes scale T (startMs records i) (endMs records i)) 10 i _ refl (given (InRecord records pool) (ltb (startMs records i) (startBefore records i)) 11 i refl)))))))
     (twice-listed (InRecord records pool) (first (stoodEarlier records) (count records))))))
 
 placed-listed : (Says Worse : ℕ → ℕ → Type 0) (i : ℕ) (v : Verdict) → ((p q : ℕ) → Says p q → Worse i q) → Listed Says v → Listed Worse (placedAt i v)
@@ -527,6 +548,36 @@ unpack-listed scale table samples recordsRoom poolRoom =
     list : (v : Verdict) (n p T : ℕ) → Listed (InTrack table samples) v → Listed (InTrack table samples) (unpacking (roomedList recordsRoom poolRoom (answerBy v (Unpacks n p T))))
     list (Refused r) n p T h = h
     list Fine n p T h = room (ltb recordsRoom n) (ltb poolRoom p) (Unpacks n p T) tt
+
+-- ---- files
+
+faults-listed : (file : List ℕ) → Listed (InFile file) (judgeFile file)
+unfolding allOther
+faults-listed file = go (judgeFile file) refl
+  where
+    go : (v : Verdict) → judgeFile file ≡ v → Listed (InFile file) v
+    go Fine e = tt
+    go (Refused w) e =
+        let lines = linesOf (unmarked file) in
+        ⊎-elim (λ m. let o = one-other (w .number) numbers refl (m .0) in (in-table (w .number) o, (λ z. m .1), λ z. absurd (not-six (w .number) o z)))
+        (λ b. let t = b .timing in
+        subst (Listed (InFile file)) (b .texts)
+        (texts-listed (InFile file) (getD lines (w .place - 2) []) (t .settings) (joined (filledLines (drop (w .place) lines))) (w .place)
+        (λ q f. (b .later, t, timing-means (getD lines (w .place - 1) []) t .0 (b .line), f))))
+        (refused-why file w e)
+
+file-listed : (file : List ℕ) (recordsRoom poolRoom : ℕ) → Listed (InFile file) (reading (readOf file recordsRoom poolRoom))
+unfolding readOf readRoom fault
+file-listed file recordsRoom poolRoom = list (judgeFile file) (length (fileCues file)) (length (fileRecords file)) (length (filePool file)) (faults-listed file)
+  where
+    room : (a b : Bool) (d : FileRead) → Listed (InFile file) (reading d) → Listed (InFile file) (reading (pick a (NotRead (fault 15 0)) (pick b (NotRead (fault 15 1)) d)))
+    room true b d k = given (InFile file) true 15 0 refl
+    room false true d k = given (InFile file) true 15 1 refl
+    room false false d k = k
+
+    list : (v : Verdict) (n r p : ℕ) → Listed (InFile file) v → Listed (InFile file) (reading (roomedFile recordsRoom poolRoom (fileBy v (Reads n r p))))
+    list (Refused w) n r p h = h
+    list Fine n r p h = room (ltb recordsRoom r) (ltb poolRoom p) (Reads n r p) tt
 
 -- ---- `tx3g` samples
 
@@ -614,6 +665,7 @@ refusals-are = record {
   check = check-listed;
   pack = pack-listed;
   unpack = unpack-listed;
+  file = file-listed;
   tx3g-entry = tx3g-entry-listed Never;
   tx3g-sample = read-listed;
   modifier = λ s from. next-modifier-listed Never s (boxesIn s from (length s)) (boxes-listed Never s from (length s));

@@ -4,7 +4,7 @@ use mathlib.Core.Path.{_≡_, refl, sym, ap, ap₂, _∙_, subst}
 use mathlib.Core.List.{List, _++_}
 use mathlib.Core.Option.{some}
 use native.Mathlib.Omega.{arith}
-use lib.ListN.{length, take, drop, getD, length-append, length-take, length-drop}
+use lib.ListN.{length, take, drop, getD, length-append}
 use Rattle.base.proofs.Over.{take-over, drop-over}
 use Rattle.verdict.specs.declared.Verdict.the-variants.{Fine}
 use borrow.Author.Tests.{lt-ltb, le-ltb, lt-leb}
@@ -14,7 +14,8 @@ use Rattle.times.proofs.Laws.{limits-timeline}
 use Rattle.timeline.specs.Cues.{Body, Cue}
 use Rattle.timeline.specs.Unpacking.{noCue, ListOf, done}
 use Rattle.timeline.proofs.Complete.{unpacks-iff}
-use Rattle.records.specs.Records.{count, textOffset, identifierLength, settingsLength, payloadLength, settingsOffset, payloadOffset, textsEnd, piece, identifierOf, settingsOf, payloadOf}
+use Rattle.records.specs.Records.{count, identifierLength, settingsLength, payloadLength}
+use Rattle.records.proofs.Laws.{text-lengths}
 use Rattle.cues.specs.Judgement.{judgeList}
 use Rattle.cues.specs.List.{bodyOf, cueOf, cuesOf}
 use Rattle.cues.proofs.Sound.{fine-sound, length-cues}
@@ -23,16 +24,35 @@ use Rattle.track.proofs.Laws.{fine-readable, readable-fine}
 use Rattle.track.proofs.Samples.{track-positive, positive-rows}
 use Rattle.conform.specs.Conformance.{conformance}
 use Rattle.conform.proofs.Blame.{passes}
-use Rattle.unpack_write.specs.Records.{idOf, textsOf, poolTo, recordsOf, poolOf}
+use Rattle.records_write.specs.Records.{idOf, textsOf, poolTo, recordsOf, poolOf}
 use Rattle.unpack.specs.declared.Unpacked.{Unpacked}
 use Rattle.unpack.specs.declared.Unpacked.the-variants.{Done, Refused}
 use Rattle.unpack.specs.Unpacking.{trackCues, trackMs, badTimes, judgeTimes, judgeEnd, doneWith, unpackRoom, roomed, unpackOf}
 use Rattle.unpack.proofs.Laws.{list-done}
-use Rattle.unpack_laws.proofs.Reading.{length-recs, count-recs, id-read, start-read, end-read, offset-read, identifier-read, settings-read, payload-read, identifier-is, settings-is, payload-is}
+use Rattle.unpack_laws.proofs.Reading.{Fits, length-recs, count-recs, id-read, start-read, end-read, offset-read, identifier-read, settings-read, payload-read, identifier-is, settings-is, payload-is}
 use Rattle.unpack_laws.proofs.Theorems.{scale-fine, success, listed-so, fits, given-at, unpacked-fine, check-accepts, comes-back, same-record, same-length}
 use Rattle.demands.specs.Calls.{UnpackCall}
 use Rattle.demands.specs.Unpacking.{SameCues, textBytes, ComesBack, TrackList, UnpackingWrites, UnpackingIsDone, Tells, UnpackRoomTells, RefusedUnpackingKeeps, UnpackedIsFine, UnpackedPasses}
 use Rattle.demands.proofs.Demands.{fine, track-is, track-readable, track-right}
+
+-- ---- the texts of records stand one behind the other
+
+pub dense : (scale : ℕ) (cs : List Cue) → length cs ≤ 1024 → ((i : ℕ) → i < length cs → Fits scale (getD cs i noCue)) → (k : ℕ) → k ≤ length cs
+    → length (poolTo cs k) ≡ textBytes (recordsOf scale cs) k
+unfolding poolTo textBytes textsOf
+dense scale cs few f zero h = refl
+dense scale cs few f (suc k) h =
+    let y = getD cs k noCue .body in
+    omega (
+      arith,
+      dense scale cs few f k (omega arith),
+      length-append (poolTo cs k) (y .identifier ++ (y .settings ++ y .payload)),
+      length-append (y .identifier) (y .settings ++ y .payload),
+      length-append (y .settings) (y .payload),
+      identifier-read scale cs few f k h,
+      settings-read scale cs few f k h,
+      payload-read scale cs few f k h,
+    )
 
 -- ---- what a call that is done has written
 
@@ -62,28 +82,6 @@ module _ (scale : ℕ) (table samples records pool recordsAfter poolAfter : List
       same : (x y : List Cue) → done x ≡ done y → x ≡ y
       same x y e = cc
 
-  -- the texts of the records stand one behind the other
-  dense : (k : ℕ) → k ≤ length (trackCues table samples) → length (poolTo (trackCues table samples) k) ≡ textBytes (recordsOf scale (trackCues table samples)) k
-  unfolding poolTo textBytes textsOf
-  dense zero h = refl
-  dense (suc k) h =
-      let a = length records in
-      let b = length pool in
-      let cs = trackCues table samples in
-      let few = listed-so scale table samples a b n p T answer-is .few in
-      let f = fits scale table samples a b n p T answer-is in
-      let y = getD cs k noCue .body in
-      omega (
-        arith,
-        dense k (omega arith),
-        length-append (poolTo cs k) (y .identifier ++ (y .settings ++ y .payload)),
-        length-append (y .identifier) (y .settings ++ y .payload),
-        length-append (y .settings) (y .payload),
-        identifier-read scale cs few f k h,
-        settings-read scale cs few f k h,
-        payload-read scale cs few f k h,
-      )
-
   list-of : TrackList scale table samples (recordsOf scale (trackCues table samples)) (poolOf (trackCues table samples)) n p T
   unfolding poolOf
   list-of =
@@ -100,9 +98,9 @@ module _ (scale : ℕ) (table samples records pool recordsAfter poolAfter : List
         list = l;
         only = only-list;
         records-bytes = (sym (w .records), omega (arith, w .records, length-recs scale cs (l .few) f));
-        pool-bytes = (sym (w .pool), w .pool ∙ dense (length cs) (omega arith) ∙ ap (textBytes (recordsOf scale cs)) (sym m));
+        pool-bytes = (sym (w .pool), w .pool ∙ dense scale cs (l .few) f (length cs) (omega arith) ∙ ap (textBytes (recordsOf scale cs)) (sym m));
         many = m;
-        offset = λ i h. offset-read scale cs (l .few) f i (omega (arith, h, m)) ∙ dense i (omega (arith, h, m));
+        offset = λ i h. offset-read scale cs (l .few) f i (omega (arith, h, m)) ∙ dense scale cs (l .few) f i (omega (arith, h, m));
         id = λ i h. let k : i < length cs = omega (arith, h, m) in let v = f i k .named in v .1 ∙ ap some (sym (ap idOf (v .1)) ∙ sym (id-read scale cs (l .few) f i k));
         start = λ i h. start-read scale cs (l .few) f i (omega (arith, h, m));
         end = λ i h. end-read scale cs (l .few) f i (omega (arith, h, m));
@@ -164,26 +162,12 @@ unpacked-passes scale table samples records pool recordsAfter poolAfter n p T an
 -- ---- demand 2's way back
 
 -- the pool of a list without fault has the bytes of its texts
-piece-length : (pool : List ℕ) (from n : ℕ) → from + n ≤ length pool → length (piece pool from n) ≡ n
-unfolding piece
-piece-length pool from n h = rw (length-take, length-drop) (omega arith)
-
 module _ (scale T : ℕ) (records pool : List ℕ) (fine-so : judgeList scale T records pool ≡ Fine) (large : 1000 ≤ scale) where
   texts-length : (i : ℕ) → i < count records → length (textsOf (bodyOf records pool i)) ≡ identifierLength records i + (settingsLength records i + payloadLength records i)
-  unfolding textsOf bodyOf identifierOf settingsOf payloadOf textsEnd payloadOffset settingsOffset
+  unfolding textsOf bodyOf
   texts-length i h =
-      let s = fine-sound scale T records pool fine-so .records i h .inside in
-      let x = piece-length pool (textOffset records i) (identifierLength records i) (omega arith) in
-      let y = piece-length pool (settingsOffset records i) (settingsLength records i) (omega arith) in
-      let z = piece-length pool (payloadOffset records i) (payloadLength records i) (omega arith) in
-      omega (
-        arith,
-        length-append (piece pool (textOffset records i) (identifierLength records i)) (piece pool (settingsOffset records i) (settingsLength records i) ++ piece pool (payloadOffset records i) (payloadLength records i)),
-        length-append (piece pool (settingsOffset records i) (settingsLength records i)) (piece pool (payloadOffset records i) (payloadLength records i)),
-        x,
-        y,
-        z,
-      )
+      let l = text-lengths records pool i (fine-sound scale T records pool fine-so .records i h .inside) in
+      rw (length-append, length-append, l .0, l .1, l .2)
 
   body-at : (i : ℕ) → i < count records → getD (cuesOf scale records pool) i noCue .body ≡ bodyOf records pool i
   unfolding cueOf

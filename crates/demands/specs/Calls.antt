@@ -1,4 +1,4 @@
--- Calls of the three operations: what they were lent, what they answered, and what their outputs hold afterwards. Each record is the contract of its function;
+-- Calls of the four operations: what they were lent, what they answered, and what their outputs hold afterwards. Each record is the contract of its function;
 -- src/lib.rt has it proved of the function itself. The demands below are about every call.
 use Prim.Native.Nat.{ℕ}
 use mathlib.Core.Path.{_≡_}
@@ -8,9 +8,11 @@ use Rattle.pack.specs.declared.Packed.{Packed}
 use Rattle.pack.specs.Packing.{packedTrack, tableBytes, samplesBytes, packedOf, after}
 use Rattle.conform.specs.declared.Checked.{Checked}
 use Rattle.conform.specs.Conformance.{checked}
-use Rattle.unpack_write.specs.Records.{recordsOf, poolOf}
+use Rattle.records_write.specs.Records.{recordsOf, poolOf}
 use Rattle.unpack.specs.declared.Unpacked.{Unpacked}
 use Rattle.unpack.specs.Unpacking.{trackCues, unpackOf, outOf}
+use Rattle.vtt_read.specs.declared.FileRead.{FileRead}
+use Rattle.vtt_read.specs.Reading.{fileRecords, filePool, readOf, outOf as fileOut}
 
 -- `pack::pack`, which is lent a table and samples to write
 pub record PackCall (scale T : ℕ) (records pool table samples tableAfter samplesAfter : List ℕ) (answer : Packed) : Type 0 where
@@ -27,3 +29,9 @@ pub record UnpackCall (scale : ℕ) (table samples records pool recordsAfter poo
   pub answers : answer ≡ unpackOf scale table samples (length records) (length pool)
   pub records-hold : recordsAfter ≡ outOf answer (recordsOf scale (trackCues table samples)) records
   pub pool-holds : poolAfter ≡ outOf answer (poolOf (trackCues table samples)) pool
+
+-- `vtt_read::read`, which is lent records and a pool to write
+pub record ReadCall (file records pool recordsAfter poolAfter : List ℕ) (answer : FileRead) : Type 0 where
+  pub answers : answer ≡ readOf file (length records) (length pool)
+  pub records-hold : recordsAfter ≡ fileOut answer (fileRecords file) records
+  pub pool-holds : poolAfter ≡ fileOut answer (filePool file) pool

@@ -1,4 +1,4 @@
--- The cases of document 01 that are proved, in one table with a single statement.
+-- The cases of document 01 that are proved, and some of document 02, in one table with a single statement.
 use Prim.Native.Nat.{ℕ, _+_}
 use mathlib.Core.Path.{_≡_}
 use mathlib.Core.Bool.{true}
@@ -16,10 +16,13 @@ use Rattle.records.specs.Records.{count, startMs, endMs}
 use Rattle.pack.specs.declared.Packed.{Packed}
 use Rattle.pack.specs.declared.Packed.the-variants.{Done, Refused}
 use Rattle.pack.specs.Packing.{packedTrack, tableBytes, samplesBytes, packedOf}
-use Rattle.unpack_write.specs.Records.{recordsOf}
+use Rattle.records_write.specs.Records.{recordsOf}
 use Rattle.unpack.specs.declared.Unpacked.{Unpacked}
 use Rattle.unpack.specs.declared.Unpacked.the-variants.{Done as DoneList, Refused as RefusedTrack}
 use Rattle.unpack.specs.Unpacking.{trackCues, unpackOf}
+use Rattle.vtt_read.specs.declared.FileRead.{FileRead}
+use Rattle.vtt_read.specs.declared.FileRead.the-variants.{Done as DoneFile, Refused as RefusedFile}
+use Rattle.vtt_read.specs.Reading.{fileRecords, filePool, readOf}
 use Rattle.input.specs.Line.{lineOf}
 use Rattle.report.specs.Report.{answerText}
 
@@ -45,13 +48,14 @@ rowsPool [] = []
 rowsPool (r ∷ rs) = r .payload ++ rowsPool rs
 
 -- What a case asks: what the packed samples hold; the bytes that packing writes; the times after unpacking those bytes; what the program prints after an input line; the
--- characters of a text. What packing or unpacking refuses answers with number and place.
+-- characters of a text; the records and pool read from a file. What packing, unpacking or reading refuses answers with number and place.
 pub data Question : Type 0 where
   holds : ℕ → ℕ → List Row → Question
   written : ℕ → ℕ → List Row → Question
   back : ℕ → ℕ → List Row → Question
   prints : List ℕ → List Row → Question
   characters : List ℕ → Question
+  file : List ℕ → Question
 
 abbrev pub idOf : Option ℕ → ℕ
 idOf none = 0
@@ -79,6 +83,11 @@ abbrev pub ifCounted : Counted → List (List ℕ)
 ifCounted (Characters n) = (n ∷ []) ∷ []
 ifCounted (Bad q) = []
 
+-- reading's answer, with what it has written
+abbrev pub ifRead : FileRead → List (List ℕ) → List (List ℕ)
+ifRead (DoneFile n r p) a = a
+ifRead (RefusedFile w) a = (w .number ∷ w .place ∷ []) ∷ []
+
 -- packing with room for 1,000 bytes in each output
 unfoldable pub askPacking : ℕ → ℕ → List ℕ → List ℕ → List (List ℕ) → List (List ℕ)
 askPacking scale T recs pool a = ifPacked (packedOf scale T recs pool 1000 1000) a
@@ -99,6 +108,7 @@ asked (back scale T rs) =
     (askUnpacking scale (tableBytes (packedTrack scale T (rowsBytes 0 rs) (rowsPool rs))) (samplesBytes (packedTrack scale T (rowsBytes 0 rs) (rowsPool rs))))
 asked (prints line rs) = answerText (lineOf line) true (rowsBytes 0 rs) (rowsPool rs) ∷ []
 asked (characters s) = ifCounted (charactersOf s)
+asked (file s) = ifRead (readOf s 1000 1000) (fileRecords s ∷ filePool s ∷ [])
 
 -- a question and its answer
 pub record Case : Type 0 where
@@ -111,9 +121,17 @@ abutting = record { id = 1; start = 0; end = 333; payload = [] } ∷ record { id
 unfoldable hi : List Row
 hi = record { id = 7; start = 0; end = 1000; payload = 0x48 ∷ 0x69 ∷ [] } ∷ []
 
--- document 01, 'Cases'
+-- `WEBVTT`, and an empty line
+unfoldable head : List ℕ
+head = 0x57 ∷ 0x45 ∷ 0x42 ∷ 0x56 ∷ 0x54 ∷ 0x54 ∷ 0x0A ∷ 0x0A ∷ []
+
+-- the identifier `a`, the timing line `00:01.000 --> 00:02.500 line:0`, the payload `Hi`
+unfoldable oneCue : List ℕ
+oneCue = 0x61 ∷ 0x0A ∷ 0x30 ∷ 0x30 ∷ 0x3A ∷ 0x30 ∷ 0x31 ∷ 0x2E ∷ 0x30 ∷ 0x30 ∷ 0x30 ∷ 0x20 ∷ 0x2D ∷ 0x2D ∷ 0x3E ∷ 0x20 ∷ 0x30 ∷ 0x30 ∷ 0x3A ∷ 0x30 ∷ 0x32 ∷ 0x2E ∷ 0x35 ∷ 0x30 ∷ 0x30 ∷ 0x20 ∷ 0x6C ∷ 0x69 ∷ 0x6E ∷ 0x65 ∷ 0x3A ∷ 0x30 ∷ 0x0A ∷ 0x48 ∷ 0x69 ∷ []
+
+-- document 01, 'Cases'; document 02, K1: a file with one cue, a malformed timing line, and a `STYLE` block
 unfoldable pub cases : List Case
-unfolding abutting hi
+unfolding abutting hi head oneCue
 cases =
     record {
       question = holds 1000 20000 (record { id = 1; start = 11000; end = 12500; payload = [] } ∷ record { id = 2; start = 13000; end = 18000; payload = [] } ∷ record { id = 3; start = 17000; end = 20000; payload = [] } ∷ []);
@@ -134,6 +152,13 @@ cases =
     ∷ record { question = characters (0xC3 ∷ 0xA9 ∷ []); answer = (1 ∷ []) ∷ [] }
     ∷ record { question = characters (0xFE ∷ 0xFF ∷ 0xD8 ∷ 0x3D ∷ 0xDE ∷ 0x00 ∷ []); answer = (1 ∷ []) ∷ [] }
     ∷ record { question = characters (0xFE ∷ 0xFF ∷ []); answer = (0 ∷ []) ∷ [] }
+    ∷ record {
+      question = file (head ++ oneCue);
+      answer = (0x00 ∷ 0x00 ∷ 0x00 ∷ 0x00 ∷ 0x00 ∷ 0x00 ∷ 0x03 ∷ 0xE8 ∷ 0x00 ∷ 0x00 ∷ 0x09 ∷ 0xC4 ∷ 0x00 ∷ 0x00 ∷ 0x00 ∷ 0x00 ∷ 0x00 ∷ 0x01 ∷ 0x00 ∷ 0x06 ∷ 0x00 ∷ 0x02 ∷ 0x00 ∷ 0x00 ∷ [])
+          ∷ (0x61 ∷ 0x6C ∷ 0x69 ∷ 0x6E ∷ 0x65 ∷ 0x3A ∷ 0x30 ∷ 0x48 ∷ 0x69 ∷ []) ∷ [];
+    }
+    ∷ record { question = file (head ++ 0x61 ∷ 0x0A ∷ 0x2D ∷ 0x2D ∷ 0x3E ∷ []); answer = (19 ∷ 4 ∷ []) ∷ [] }
+    ∷ record { question = file (head ++ 0x53 ∷ 0x54 ∷ 0x59 ∷ 0x4C ∷ 0x45 ∷ []); answer = (18 ∷ 3 ∷ []) ∷ [] }
     ∷ []
 
 -- each question has its answer

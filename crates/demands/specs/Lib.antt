@@ -3,6 +3,7 @@ pub mod Calls
 pub mod Packing
 pub mod Checking
 pub mod Unpacking
+pub mod Files
 pub mod Offsets
 pub mod Refusals
 pub mod Cases

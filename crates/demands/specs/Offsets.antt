@@ -1,12 +1,12 @@
 -- Demand 1's second place (document 02, K2): where a text is bad, under each rule of texts. `FirstBad` of crate viable is its meaning: each beginning up to the offset has a
 -- continuation in bytes that keeps the rule, and with the byte there it has none any more, or the text ends there too early.
-use Prim.Native.Nat.{ℕ, _+_, _≤_, _<_}
+use Prim.Native.Nat.{ℕ, _+_, _-_, _≤_, _<_}
 use mathlib.Core.Path.{_≡_}
 use mathlib.Core.Logic.{_⊎_}
 use mathlib.Core.Bool.{true}
-use mathlib.Core.List.{List}
+use mathlib.Core.List.{List, []}
 use mathlib.Core.Option.{Option, some}
-use lib.ListN.{length}
+use lib.ListN.{length, drop, getD}
 use Rattle.viable.specs.FirstBad.{FirstBad, Passes, JudgedIs}
 use Rattle.fields.specs.BigEndian.{be}
 use Rattle.utf8.specs.Utf8.{utf8, utf8Begun}
@@ -18,6 +18,10 @@ use Rattle.wvtt.specs.Kinds.{payl, line}
 use Rattle.wvtt_entry.specs.Entry.{vttC, vlab}
 use Rattle.records.specs.Records.{count, identifierOf, settingsOf, payloadOf}
 use Rattle.track.specs.Track.{rowCount, bytesOf}
+use Rattle.vtt_lines.specs.Lines.{linesOf, joined, filled}
+use Rattle.vtt_timing.specs.Timing.{Timing}
+use Rattle.vtt_timing.specs.Grammar.{TimingLine}
+use Rattle.vtt_read.specs.Reading.{unmarked}
 use Rattle.tx3g_sample.specs.Sample.{textEnd}
 
 -- a text is answered to be right exactly if it keeps its rule, and bad at q exactly if q is its first bad byte
@@ -61,16 +65,23 @@ InWritten c l p q =
     ((p ≡ 0) × FirstBad (Passes configurationText) c q)
     ⊎ ((p ≡ 1) × Passes configurationText c × (t : List ℕ) × (l ≡ some t) × FirstBad (Passes labelText) t q)
 
--- of a list: q is the first bad byte of the first bad one of the texts of record i
-abbrev pub InRecord : List ℕ → List ℕ → ℕ → ℕ → Type 0
-InRecord records pool i q =
-    let identifier = identifierOf records pool i in
-    let settings = settingsOf records pool i in
-    let payload = payloadOf records pool i in
-    (i < count records)
-    × (FirstBad (Passes identifierText) identifier q
+-- q is the first bad byte of the first bad one of a cue's texts
+abbrev pub InTexts : List ℕ → List ℕ → List ℕ → ℕ → Type 0
+InTexts identifier settings payload q =
+    FirstBad (Passes identifierText) identifier q
     ⊎ (Passes identifierText identifier × FirstBad (Passes identifierText) settings q)
-    ⊎ (Passes identifierText identifier × Passes identifierText settings × FirstBad (Passes payloadText) payload q))
+    ⊎ (Passes identifierText identifier × Passes identifierText settings × FirstBad (Passes payloadText) payload q)
+
+-- of a list: in the texts of record i
+abbrev pub InRecord : List ℕ → List ℕ → ℕ → ℕ → Type 0
+InRecord records pool i q = (i < count records) × InTexts (identifierOf records pool i) (settingsOf records pool i) (payloadOf records pool i) q
+
+-- of a WebVTT file: in the texts of the cue whose timing line is line p, the first being 1: the line before it, which is empty where the cue has no identifier; its settings;
+-- the lines behind it up to an empty one, joined by one LF
+abbrev pub InFile : List ℕ → ℕ → ℕ → Type 0
+InFile file p q =
+    let lines = linesOf (unmarked file) in
+    (1 < p) × (timing : Timing) × TimingLine (getD lines (p - 1) []) timing × InTexts (getD lines (p - 2) []) (timing .settings) (joined (filled (drop p lines))) q
 
 -- of a track: in sample i, at some byte of it
 abbrev pub InTrack : List ℕ → List ℕ → ℕ → ℕ → Type 0

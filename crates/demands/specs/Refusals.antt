@@ -29,6 +29,9 @@ use Rattle.pack.specs.Packing.{packedOf}
 use Rattle.unpack.specs.declared.Unpacked.{Unpacked}
 use Rattle.unpack.specs.declared.Unpacked.the-variants.{Done as Unpacks, Refused as NotUnpacked}
 use Rattle.unpack.specs.Unpacking.{unpackOf}
+use Rattle.vtt_read.specs.declared.FileRead.{FileRead}
+use Rattle.vtt_read.specs.declared.FileRead.the-variants.{Done as Reads, Refused as NotRead}
+use Rattle.vtt_read.specs.Reading.{readOf}
 use Rattle.tx3g_entry.specs.Entry.{judgeEntry as judgeTx3gEntry}
 use Rattle.tx3g_sample.specs.Sample.{countedAt, readSample, verdictOf}
 use Rattle.tx3g_modifiers.specs.declared.Held.{Held as Modifier}
@@ -38,11 +41,11 @@ use Rattle.tx3g_style.specs.Style.{styleOf, faultOf}
 use Rattle.tx3g_box.specs.declared.Spot.{Spot}
 use Rattle.tx3g_box.specs.declared.Spot.the-variants.{Sample as SampleBox, Entry as EntryBox, BadEntry as BoxEntry, BadSample as BoxSample}
 use Rattle.tx3g_box.specs.TextBox.{spotOf}
-use Rattle.demands.specs.Offsets.{InSample, InEntry, InWritten, InRecord, InTrack, InText, InTx3g, Never}
+use Rattle.demands.specs.Offsets.{InSample, InEntry, InWritten, InRecord, InFile, InTrack, InText, InTx3g, Never}
 
--- the numbers of refusals: 1 to 17
+-- the numbers of refusals: 1 to 19
 abbrev pub InTable : ℕ → Type 0
-InTable n = (1 ≤ n) × (n ≤ 17)
+InTable n = (1 ≤ n) × (n ≤ 19)
 
 -- no refusal, or one with a number of the table; if that is 6, `Says` holds of its two places, else the second is 0
 abbrev pub Listed : (ℕ → ℕ → Type 0) → Verdict → Type 0
@@ -56,6 +59,10 @@ packing (NotPacked r) = Refused r
 abbrev pub unpacking : Unpacked → Verdict
 unpacking (Unpacks n p T) = Fine
 unpacking (NotUnpacked r) = Refused r
+
+abbrev pub reading : FileRead → Verdict
+reading (Reads n r p) = Fine
+reading (NotRead r) = Refused r
 
 -- of the check: the list's texts, or the track's, by who is at fault
 abbrev pub CheckListed : List ℕ → List ℕ → List ℕ → List ℕ → Checked → Type 0
@@ -96,6 +103,7 @@ pub record RefusalsAre : Type 0 where
   pub check : (scale T : ℕ) (records pool table samples : List ℕ) → CheckListed records pool table samples (checked scale T records pool table samples)
   pub pack : (scale T : ℕ) (records pool : List ℕ) (tableRoom samplesRoom : ℕ) → Listed (InRecord records pool) (packing (packedOf scale T records pool tableRoom samplesRoom))
   pub unpack : (scale : ℕ) (table samples : List ℕ) (recordsRoom poolRoom : ℕ) → Listed (InTrack table samples) (unpacking (unpackOf scale table samples recordsRoom poolRoom))
+  pub file : (file : List ℕ) (recordsRoom poolRoom : ℕ) → Listed (InFile file) (reading (readOf file recordsRoom poolRoom))
   pub tx3g-entry : (e : List ℕ) → Listed Never (judgeTx3gEntry e)
   pub tx3g-sample : (e s : List ℕ) → Listed (InTx3g s) (verdictOf (readSample e s))
   pub modifier : (s : List ℕ) (from : ℕ) → Listed Never (ofModifier (nextModifier s (boxesIn s from (length s))))

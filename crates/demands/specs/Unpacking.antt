@@ -17,7 +17,7 @@ use Rattle.track.specs.Track.{trackOf, judgeTrack, Readable}
 use Rattle.pack.specs.declared.Packed.the-variants.{Done as PackDone}
 use Rattle.conform.specs.declared.Checked.{Checked}
 use Rattle.conform.specs.declared.Checked.the-variants.{Passed}
-use Rattle.unpack_write.specs.Records.{recordsOf, poolOf}
+use Rattle.records_write.specs.Records.{recordsOf, poolOf}
 use Rattle.unpack.specs.declared.Unpacked.{Unpacked}
 use Rattle.unpack.specs.declared.Unpacked.the-variants.{Done, Refused}
 use Rattle.unpack.specs.Unpacking.{unpackRoom}

@@ -1,10 +1,11 @@
-// The three operations, each with the contract that the demands start from (specs/Calls.antt). The demands are theorems about every such call (specs/), with their
+// The four operations, each with the contract that the demands start from (specs/Calls.antt). The demands are theorems about every such call (specs/), with their
 // proofs (proofs/).
 use conform::Checked;
 use conform::check_track;
 use pack::Packed;
 use unpack::Unpacked;
-ghost use Rattle.demands.specs.Calls.{PackCall, CheckCall, UnpackCall};
+use vtt_read::FileRead;
+ghost use Rattle.demands.specs.Calls.{PackCall, CheckCall, UnpackCall, ReadCall};
 
 // Packing.
 pub fn pack_list(
@@ -45,4 +46,11 @@ pub fn unpack_track(
     ensures { λ r. ⌜ UnpackCall scale (now (table .entry)) (now (samples .entry)) (now (records .entry)) (now (pool .entry)) (now (records .exit)) (now (pool .exit)) r ⌝ }
 {
     unpack::unpack(scale, table, samples, &mut *records, &mut *pool)
+}
+
+// Reading a file.
+pub fn read_file(file: &[u8], records: &mut [u8], pool: &mut [u8]) -> FileRead
+    ensures { λ r. ⌜ ReadCall (now (file .entry)) (now (records .entry)) (now (pool .entry)) (now (records .exit)) (now (pool .exit)) r ⌝ }
+{
+    vtt_read::read(file, &mut *records, &mut *pool)
 }

@@ -8,12 +8,10 @@ use native.Mathlib.Omega.{arith}
 use native.Mathlib.Nat.{add-zero, add-suc, le-refl}
 use native.Mathlib.Numerals.{add-one}
 use lib.Dec.{ltb}
-use lib.ListN.{length, drop, length-append, length-drop}
-use lib.Seq.{length-take-le}
+use lib.ListN.{length, length-append}
 use Rattle.base.specs.Choice.{pick, keep}
 use Rattle.base.specs.Over.{wrote}
 use Rattle.base.proofs.Over.{wrote-more, wrote-nil}
-use Rattle.fields.specs.BigEndian.{bytes}
 use Rattle.fields.proofs.BigEndian.{length-bytes}
 use Rattle.timeline.specs.Lists.{listed}
 use Rattle.timeline.specs.Cues.{Body, runs, runningAt}
@@ -28,7 +26,7 @@ use Rattle.wvtt_write.proofs.Laws.{length-cue}
 use Rattle.cues.specs.Judgement.{judgeList}
 use Rattle.records.specs.Records.{sourceId, textOffset, identifierLength, settingsLength, payloadLength, settingsOffset, payloadOffset, textsEnd, piece, identifierOf, settingsOf, payloadOf}
 use Rattle.cues.specs.List.{bodyOf, cueOf}
-use Rattle.records.proofs.Laws.{in-order}
+use Rattle.records.proofs.Laws.{in-order, text-lengths}
 use Rattle.cuts.specs.Cuts.{startTick, endTick, runsAt, recordSize, cuesSize, orEmpty}
 use Rattle.cuts.specs.Window.{Ended, Later}
 use Rattle.cuts.proofs.Laws.{runs-started, runs-ended, runs-later, size-more, size-most, not-empty}
@@ -69,18 +67,9 @@ module _ (recs pool : List ℕ) (k : ℕ) where
       (part-piece pool (from + i) (settingsOffset recs k) g (omega (arith, o .settings-at)) ∙ ap (piece pool (settingsOffset recs k)) q)
       (part-piece pool (from + i + g) (payloadOffset recs k) t (omega (arith, o .settings-at, o .payload-at)) ∙ ap (piece pool (payloadOffset recs k)) r)
 
-  length-piece : (from n : ℕ) → from + n ≤ length pool → length (piece pool from n) ≡ n
-  unfolding piece
-  length-piece from n h = length-take-le n (drop from pool) (rw length-drop (omega arith))
-
   pub body-lengths : textsEnd recs k ≤ length pool → (length (bodyOf recs pool k .identifier) ≡ identifierLength recs k) × (length (bodyOf recs pool k .settings) ≡ settingsLength recs k) × (length (bodyOf recs pool k .payload) ≡ payloadLength recs k)
-  unfolding bodyOf identifierOf settingsOf payloadOf
-  body-lengths h =
-      let o = in-order recs k in (
-        length-piece (textOffset recs k) (identifierLength recs k) (omega (arith, o .settings-at, o .payload-at, o .end-at)),
-        length-piece (settingsOffset recs k) (settingsLength recs k) (omega (arith, o .payload-at, o .end-at)),
-        length-piece (payloadOffset recs k) (payloadLength recs k) (omega (arith, o .end-at)),
-      )
+  unfolding bodyOf
+  body-lengths h = text-lengths recs pool k h
 
   pub record-length : textsEnd recs k ≤ length pool → length (cueBytes (bodyOf recs pool k)) ≡ recordSize recs k
   unfolding recordSize bodyOf

@@ -67,7 +67,7 @@ row-eq x y a b c d e f g h k = λ i. record {
   payload = record { from = h i; end = k i };
 }
 
-length-numbers : (r : Row) → length (numbersOf r) ≡ 9
+pub length-numbers : (r : Row) → length (numbersOf r) ≡ 9
 unfolding numbersOf
 length-numbers r = refl
 

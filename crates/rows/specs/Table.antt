@@ -1,4 +1,5 @@
--- Terms of the contracts of functions that only unpacking calls: the table of the cues that are known, nine numbers for each, and the lists of cues that it stands for.
+-- Terms of the contracts of functions that unpacking and the reader of files call: the table of the cues that are known, nine numbers for each, and the lists of
+-- cues that it stands for.
 use Prim.Native.Nat.{ℕ, _+_, _*_, _≤_, _<_}
 use mathlib.Core.Logic.{_≢_}
 use mathlib.Core.Bool.{Bool, true}

@@ -1,5 +1,5 @@
 // The table of the cues that are known: nine numbers for each, its ID, its start and end ticks, and from where to where each of its
-// three texts stands in the sample bytes. Texts are compared where they stand.
+// three texts stands in the bytes that are read. Texts are compared where they stand.
 use compare::same_bytes;
 use wvtt_cues::Part;
 use wvtt_cues::Parts;

@@ -1,13 +1,17 @@
 // The rules of document 01's texts. A text is right, or a judgement names its first bad byte (document 02, K2).
 use ascii::is_ascii;
+use ascii::is_lined8;
 use ascii::is_unmarked;
+use ascii::is_unmarked8;
 use utf8::Rule;
 use utf8::is_line_end;
 use utf8::judge_rule;
 use viable::Judged;
 ghost use mathlib.Core.Path.{_≡_};
+ghost use mathlib.Core.Bool.{true};
 ghost use Prim.Native.Nat.{_≤_};
 ghost use lib.ListN.{length};
+ghost use Rattle.ascii.specs.Ascii.{unmarked, all};
 ghost use Rattle.viable.specs.FirstBad.{judgedBy};
 ghost use Rattle.utf8.specs.Utf8.{utf8, utf8Begun};
 ghost use Rattle.utf8.specs.Forbidden.{keeps, keepsBegun};
@@ -73,21 +77,66 @@ pub fn judge_utf8(s: &[u8]) -> Judged
     judge_rule(s, Rule::Any)
 }
 
-// An identifier or settings.
+// Whether none of the bytes is a mark. Few bytes and very many are taken in one pass. Others are taken eight at a stride, the last eight from the end, until a mark is seen.
+fn is_clear(s: &[u8]) -> bool
+    ensures { λ r. ⌜ r ≡ all unmarked (now (s .entry)) 0 (length (now (s .entry))) ⌝ }
+{
+    let n = s.len();
+    if n < 8 {
+        return is_unmarked(s);
+    }
+    if 255 < n {
+        return is_unmarked(s);
+    }
+    let last = n - 8;
+    let mut i = 0;
+    while i < last {
+        if !is_unmarked8(s, i) {
+            return false;
+        }
+        i += 8;
+    }
+    is_unmarked8(s, last)
+}
+
+// An identifier or settings. A text with no mark keeps each rule.
 pub fn judge_identifier(s: &[u8]) -> Judged
     ensures { λ r. ⌜ r ≡ judgedBy identifierText identifierBegun (now (s .entry)) ⌝ }
 {
+    if is_clear(s) {
+        return Judged::Right;
+    }
     judge_rule(s, Rule::Line)
 }
 
-// What a payload may hold. One more pass, in wide steps, is worth its time in a long text only.
+// Whether a quick test tells that the bytes are right for a payload: no mark but single line ends. It is as `is_clear`, and the last eight hold no line end.
+fn is_lined(s: &[u8]) -> bool
+    ensures { λ r. ⌜ (r ≡ true → keeps Rule.Payload (now (s .entry)) ≡ true) ⌝ }
+{
+    let n = s.len();
+    if n < 8 {
+        return is_unmarked(s);
+    }
+    if 255 < n {
+        return is_unmarked(s);
+    }
+    let last = n - 8;
+    let mut i = 0;
+    while i < last {
+        if !is_lined8(s, i) {
+            return false;
+        }
+        i += 8;
+    }
+    is_unmarked8(s, last)
+}
+
+// What a payload may hold.
 fn judge_inside(s: &[u8]) -> Judged
     ensures { λ r. ⌜ r ≡ judgedBy (keeps Rule.Payload) (keepsBegun Rule.Payload) (now (s .entry)) ⌝ }
 {
-    if 255 < s.len() {
-        if is_unmarked(s) {
-            return Judged::Right;
-        }
+    if is_lined(s) {
+        return Judged::Right;
     }
     judge_rule(s, Rule::Payload)
 }

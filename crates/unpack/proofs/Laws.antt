@@ -31,9 +31,10 @@ use Rattle.track.proofs.Samples.{track-positive}
 use Rattle.rows.specs.declared.Row.{Row}
 use Rattle.rows.specs.Table.{rowAt, bodyAt, cueAt, known, Placed, Good}
 use Rattle.rows.proofs.Laws.{length-known, known-at}
-use Rattle.unpack_write.specs.Records.{recordsTo, poolTo, recordsOf, poolOf}
+use Rattle.records_write.specs.Records.{recordsTo, poolTo, recordsOf, poolOf}
 use Rattle.unpack_write.specs.Rows.{Ready, InTime, sizeTo}
-use Rattle.unpack_write.proofs.Laws.{LengthsOf, lengths-of, length-records, length-pool}
+use Rattle.records_write.proofs.Laws.{length-records}
+use Rattle.unpack_write.proofs.Laws.{LengthsOf, lengths-of, length-pool}
 use Rattle.unpack.specs.declared.Unpacked.{Unpacked}
 use Rattle.unpack.specs.declared.Unpacked.the-variants.{Done, Refused as Stopped}
 use Rattle.unpack.specs.declared.Listed.{Listed}

@@ -13,7 +13,7 @@ use Rattle.times.specs.Times.{back, scaleAllowed, timelineAllowed}
 use Rattle.timeline.specs.Cues.{Cue}
 use Rattle.timeline.specs.Tracks.{total}
 use Rattle.timeline.specs.Unpacking.{Unpacked as Listing, stopped, done, unpack, noCue}
-use Rattle.unpack_write.specs.Records.{recordsOf, poolOf}
+use Rattle.records_write.specs.Records.{recordsOf, poolOf}
 use Rattle.track.specs.Track.{judgeTrack, trackOf}
 use Rattle.unpack.specs.declared.Unpacked.{Unpacked}
 use Rattle.unpack.specs.declared.Unpacked.the-variants.{Done, Refused as Stopped}

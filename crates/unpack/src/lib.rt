@@ -18,7 +18,7 @@ ghost use lib.ListN.{length};
 ghost use Rattle.verdict.specs.Judgement.{each};
 ghost use Rattle.times.specs.Times.{back, timelineAllowed};
 ghost use Rattle.rows.specs.Table.{rowAt, known};
-ghost use Rattle.unpack_write.specs.Records.{recordsOf, poolOf};
+ghost use Rattle.records_write.specs.Records.{recordsOf, poolOf};
 ghost use Rattle.unpack.specs.Unpacking.{badTimes, trackCues, unpackRoom, roomed, unpackOf, outOf};
 ghost use Rattle.unpack.specs.Rows.{rowTimes, endOf, rowsRoom, refusedBy, Measurable, RowsReady, ReadAs};
 

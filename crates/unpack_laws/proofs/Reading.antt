@@ -20,8 +20,8 @@ use Rattle.wvtt.specs.Sound.{Sound as SoundBody}
 use Rattle.records.specs.Records.{count, sourceId, startMs, endMs, textOffset, identifierLength, settingsLength, payloadLength, reserved, settingsOffset, payloadOffset, textsEnd, piece, identifierOf, settingsOf, payloadOf}
 use Rattle.cues.specs.List.{bodyOf, cueOf, cuesOf}
 use Rattle.rows.proofs.Laws.{listed-same}
-use Rattle.unpack_write.specs.Records.{recordBytes, idOf, recordOf, textsOf, poolTo, recordsTo, poolOf, recordsOf}
-use Rattle.unpack_write.proofs.Laws.{length-record, length-records}
+use Rattle.records_write.specs.Records.{recordBytes, idOf, recordOf, textsOf, poolTo, recordsTo, poolOf, recordsOf}
+use Rattle.records_write.proofs.Laws.{length-record, length-records}
 
 -- ---- lists that grow by a part each time
 

@@ -36,7 +36,7 @@ use Rattle.records.specs.Records.{count, sourceId, startMs, endMs, textOffset, 
 use Rattle.cues.specs.Judgement.{judgeList}
 use Rattle.cues.specs.List.{bodyOf, cueOf, cuesOf, SoundRecord, Sound}
 use Rattle.cues.proofs.Sound.{fine-sound, sound-fine, fine-proper, fine-few, cues-named, length-cues}
-use Rattle.unpack_write.specs.Records.{idOf, recordsOf, poolOf}
+use Rattle.records_write.specs.Records.{idOf, recordsOf, poolOf}
 use Rattle.unpack.specs.declared.Unpacked.{Unpacked}
 use Rattle.unpack.specs.declared.Unpacked.the-variants.{Done, Refused as Stopped}
 use Rattle.unpack.specs.Unpacking.{stopsAt, listIn, trackCues, trackMs, badTimes, judgeTimes, judgeEnd, judgeUnpack, answerBy, doneWith, unpackRoom, roomed, unpackOf}

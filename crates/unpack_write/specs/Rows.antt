@@ -4,7 +4,6 @@ use mathlib.Core.List.{List}
 use Rattle.times.specs.Times.{back}
 use Rattle.rows.specs.declared.Row.{Row}
 use Rattle.rows.specs.Table.{rowAt, Placed}
-use Rattle.unpack_write.specs.Records.{recordBytes}
 
 -- the texts of a row are within their limits
 pub record Short (r : Row) : Type 0 where
@@ -26,12 +25,6 @@ pub record Ready (l : ℕ) (r : Row) : Type 0 where
 -- its times in ms are at most the largest
 abbrev pub InTime : ℕ → Row → Type 0
 InTime scale r = (back scale (r .start) ≤ 359999999) × (back scale (r .end) ≤ 359999999)
-
--- the record of a row whose texts stand at an offset
-unfoldable pub rowRecord : ℕ → ℕ → Row → List ℕ
-rowRecord scale offset r =
-    recordBytes (r .id) (back scale (r .start)) (back scale (r .end)) offset
-    (r .identifier .end - r .identifier .from) (r .settings .end - r .settings .from) (r .payload .end - r .payload .from)
 
 -- the bytes of a row's texts
 unfoldable pub rowSize : Row → ℕ

@@ -2,8 +2,10 @@
 
 mod classes;
 mod entries;
+mod files;
 mod inputs;
 mod lists;
+mod reader;
 mod texts;
 mod timing;
 mod tx3g;
@@ -31,6 +33,7 @@ fn main() {
         lists::bench_samples(lists, &format!("{count} cues"));
     }
     entries::bench();
+    files::bench();
     for count in SIZES {
         tx3g::bench(&tx3g::samples(count), &format!("{count} styles"));
     }

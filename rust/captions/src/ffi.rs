@@ -87,6 +87,15 @@ pub struct CaptionsChecked {
 
 #[repr(C)]
 #[derive(Clone, Copy, Debug, PartialEq, Eq)]
+pub struct CaptionsVttRead {
+    pub refusal: CaptionsRefusal,
+    pub cues: usize,
+    pub record_bytes: usize,
+    pub pool_bytes: usize,
+}
+
+#[repr(C)]
+#[derive(Clone, Copy, Debug, PartialEq, Eq)]
 pub struct CaptionsTx3gEntry {
     pub refusal: CaptionsRefusal,
     pub data_reference_index: u32,
@@ -300,6 +309,15 @@ extern "C" {
         samples: *const u8,
         samples_len: usize,
     ) -> CaptionsChecked;
+    pub fn captions_vtt_read_room(file: *const u8, file_len: usize) -> CaptionsVttRead;
+    pub fn captions_vtt_read(
+        file: *const u8,
+        file_len: usize,
+        records: *mut u8,
+        records_len: usize,
+        pool: *mut u8,
+        pool_len: usize,
+    ) -> CaptionsVttRead;
     pub fn captions_tx3g_read_entry(entry: *const u8, entry_len: usize) -> CaptionsTx3gEntry;
     pub fn captions_tx3g_font_at(entry: *const u8, entry_len: usize, at: usize) -> CaptionsFont;
     pub fn captions_tx3g_count_characters(text: *const u8, text_len: usize) -> CaptionsCount;

@@ -1,5 +1,5 @@
 //! Captions in MP4 tracks: WebVTT (`wvtt`) and 3GPP text (`tx3g`) samples and sample entries, cue
-//! lists and tracks, as safe functions over a proved library.
+//! lists and tracks, and WebVTT files, as safe functions over a proved library.
 //!
 //! # Pack your first list
 //!
@@ -26,14 +26,31 @@
 //! # }
 //! ```
 //!
+//! # Pack a WebVTT file
+//!
+//! ```
+//! use captions::vtt;
+//! use captions::wvtt::Track;
+//!
+//! let list = vtt::read(b"WEBVTT\n\n00:00.000 --> 00:01.500\nGood morning.\n")?;
+//! let track = Track::pack(1000, 3000, &list)?;
+//! assert_eq!(track.len(), 2);
+//!
+//! // The place of a file's refusal is a line.
+//! let refused = vtt::read(b"WEBVTT\n\nSTYLE\n::cue {}\n").unwrap_err();
+//! assert_eq!(refused.to_string(), "refused 18 3: a STYLE or REGION block");
+//! # Ok::<(), captions::Refusal>(())
+//! ```
+//!
 //! # What is where
 //!
-//! The modules [`wvtt`] and [`tx3g`] have the names of the C functions `captions_wvtt_…` and
-//! `captions_tx3g_…` of `include/captions.h`; what has neither prefix stands here. Functions take
-//! lent bytes and allocate nothing, but for those that end in `to_vec` or `to_vecs`. A refusal
-//! gives a [`Reason`], a place and, of a bad text, the offset at which it is bad, and writes
-//! nothing; on success bytes past the result keep their content. Where an operation reads two
-//! things, a [`Fault`] also says which is at fault.
+//! The modules [`wvtt`], [`vtt`] and [`tx3g`] have the names of the C functions `captions_wvtt_…`,
+//! `captions_vtt_…` and `captions_tx3g_…` of `include/captions.h`; what has no such prefix stands
+//! here. Functions take lent bytes and allocate nothing, but for [`vtt::read`] and those that end
+//! in `to_vec` or `to_vecs`. A refusal gives a [`Reason`], a place and, of a bad text, the offset
+//! at which it is bad, and writes nothing; on success bytes past the result keep their content.
+//! The place is a byte, an index or, of a file, a line. Where an operation reads two things, a
+//! [`Fault`] also says which is at fault.
 //!
 //! Over these stand types that are judged once and then read: [`CueList`] and [`CueListRef`],
 //! [`wvtt::Track`], [`wvtt::Sample`], [`wvtt::Entry`], [`tx3g::Entry`] and [`tx3g::Sample`].
@@ -46,6 +63,7 @@
 //! | `captions_wvtt_pack_room`, `_pack` | [`wvtt::Track::pack`], [`wvtt::pack_to_vecs`], [`wvtt::pack_room`], [`wvtt::pack`] |
 //! | `captions_wvtt_unpack_room`, `_unpack` | [`wvtt::Track::unpack`], [`wvtt::unpack_to_vecs`], [`wvtt::unpack_room`], [`wvtt::unpack`] |
 //! | `captions_wvtt_check` | [`wvtt::Track::check`], [`wvtt::check`] |
+//! | `captions_vtt_read_room`, `_read` | [`vtt::read`], [`vtt::read_room`], [`vtt::read_into`] |
 //! | `captions_tx3g_read_entry`, `_font_at` | [`tx3g::Entry::read`], [`tx3g::Entry::fonts`], [`tx3g::font_at`] |
 //! | `captions_tx3g_read_sample` | [`tx3g::Sample::read`] |
 //! | `captions_tx3g_next_run` | [`tx3g::Sample::runs`], [`tx3g::next_run`] |
@@ -61,6 +79,7 @@ pub mod limits;
 mod list;
 mod refusal;
 pub mod tx3g;
+pub mod vtt;
 pub mod wvtt;
 
 pub use list::{judge_list, CueList, CueListRef, ListedCue, ListedCues};

@@ -5,7 +5,7 @@ use std::fmt::{self, Display};
 
 use crate::ffi::CaptionsRefusal;
 
-/// The numbers given back, 1 to 17.
+/// The numbers given back, 1 to 19.
 #[non_exhaustive]
 #[derive(Clone, Copy, Debug, PartialEq, Eq, PartialOrd, Ord, Hash)]
 pub enum Reason {
@@ -43,6 +43,10 @@ pub enum Reason {
     Differs,
     /// 17: a cue without ID, in unpacking.
     NoId,
+    /// 18: a STYLE or REGION block of a file.
+    StyleBlock,
+    /// 19: a line or block of a file that may not stand there.
+    Malformed,
     /// A number that this crate does not know.
     Unknown(u32),
 }
@@ -50,7 +54,7 @@ pub enum Reason {
 use Reason::*;
 
 /// The reasons by number, from 1 on, with their meaning.
-const REASONS: [(Reason, &str); 17] = [
+const REASONS: [(Reason, &str); 19] = [
     (BytesMissing, "bytes missing"),
     (BadSize, "a size that does not fit, or another entry type"),
     (KindTwice, "a kind twice"),
@@ -68,6 +72,8 @@ const REASONS: [(Reason, &str); 17] = [
     (NoRoom, "output too short"),
     (Differs, "the track differs"),
     (NoId, "a cue without ID"),
+    (StyleBlock, "a STYLE or REGION block"),
+    (Malformed, "a malformed line or block"),
 ];
 
 impl Reason {
@@ -79,7 +85,7 @@ impl Reason {
         }
     }
 
-    /// The reason of a number other than 0. The library gives none above 17.
+    /// The reason of a number other than 0. The library gives none above 19.
     #[inline]
     pub(crate) fn of(number: u32) -> Self {
         let known = REASONS.get((number as usize).wrapping_sub(1));
@@ -111,7 +117,8 @@ impl Display for Reason {
 pub struct Refusal {
     /// Why.
     pub reason: Reason,
-    /// A byte of a sample or an entry, or the index of a record or a sample.
+    /// A byte of a sample or an entry, the index of a record or a sample, or the line of a file,
+    /// from 1.
     pub place: usize,
     /// Where a bad text is bad, from the text's start: the first byte after which no
     /// continuation could be right, or the text's length where it ends too early; 0 for every
@@ -120,7 +127,8 @@ pub struct Refusal {
     /// In a sample or an entry that is byte `place + 8 + offset`, behind the header of the box
     /// at the place; in a `tx3g` sample byte `2 + offset`. Of a record's texts the first bad one
     /// of identifier, settings and payload counts, which [`judge_identifier`] and
-    /// [`judge_payload`] tell. In a track [`judge_sample`] of the sample gives the box.
+    /// [`judge_payload`] tell. In a track [`judge_sample`] of the sample gives the box. The texts
+    /// of a file's cue count as the pool would hold them, lines joined by LF.
     ///
     /// [`judge_identifier`]: crate::wvtt::judge_identifier
     /// [`judge_payload`]: crate::wvtt::judge_payload
@@ -264,12 +272,12 @@ mod tests {
 
     #[test]
     fn other_numbers_are_unknown() {
-        for number in [0, 18, u32::MAX] {
+        for number in [0, 20, u32::MAX] {
             assert_eq!(Reason::of(number), Unknown(number));
             assert_eq!(Reason::of(number).number(), number);
         }
-        let refused = judged(answer(18, 2, 0)).expect_err("a number");
-        assert_eq!(refused.to_string(), "refused 18 2: unknown");
+        let refused = judged(answer(20, 2, 0)).expect_err("a number");
+        assert_eq!(refused.to_string(), "refused 20 2: unknown");
     }
 
     #[test]

@@ -6,10 +6,10 @@ mod raw;
 
 use std::hint::black_box;
 
-use captions::{tx3g, wvtt};
+use captions::{tx3g, vtt, wvtt};
 use captions_harness::{BoxAt, Cue, Entry, Fault, Fields, Font, Library, Modifier, Next};
 use captions_harness::{
-    Offered, Packed, Refusal, Run, RunAt, RunInput, Span, TextBoxAt, Tx3gSample, Unpacked,
+    Offered, Packed, Refusal, Run, RunAt, RunInput, Span, TextBoxAt, Tx3gSample, Unpacked, VttRead,
 };
 
 use convert::{fault, refusal};
@@ -241,6 +241,30 @@ impl Library for Proved {
         Some(checked.map_err(fault))
     }
 
+    /// As the static library measures it; the list that the safe function reads must agree.
+    fn read_vtt_room(&self, file: &[u8]) -> Offered<Result<VttRead, Refusal>> {
+        Some(lend([file], |[file]| {
+            let room = vtt::read_room(file);
+            let list = vtt::read(file).map(|list| vtt::Read {
+                cues: list.len(),
+                record_bytes: list.records().len(),
+                pool_bytes: list.pool().len(),
+            });
+            assert_eq!(list, room);
+            room.map(vtt_read).map_err(refusal)
+        }))
+    }
+
+    fn read_vtt(
+        &self,
+        file: &[u8],
+        records: &mut [u8],
+        pool: &mut [u8],
+    ) -> Offered<Result<VttRead, Refusal>> {
+        let answer = lend([file], |[file]| vtt::read_into(file, records, pool));
+        Some(answer.map(vtt_read).map_err(refusal))
+    }
+
     fn read_tx3g_entry(&self, entry: &[u8]) -> Offered<Result<Fields, Refusal>> {
         let read = lend([entry], |[entry]| {
             tx3g::Entry::read(entry).map(|entry| convert::fields(&entry))
@@ -351,5 +375,13 @@ fn unpacked(unpacked: wvtt::Unpacked) -> Unpacked {
         record_bytes: unpacked.record_bytes,
         pool_bytes: unpacked.pool_bytes,
         t: unpacked.t,
+    }
+}
+
+fn vtt_read(read: vtt::Read) -> VttRead {
+    VttRead {
+        cues: read.cues,
+        record_bytes: read.record_bytes,
+        pool_bytes: read.pool_bytes,
     }
 }

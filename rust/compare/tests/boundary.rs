@@ -55,6 +55,7 @@ answers! {
     CaptionsWritten: refusal;
     CaptionsPacked: refusal;
     CaptionsUnpacked: refusal;
+    CaptionsVttRead: refusal;
     CaptionsTx3gEntry: refusal;
     CaptionsCount: refusal;
     CaptionsModifier: refusal;
@@ -154,6 +155,20 @@ fn no_list_and_no_track_are_answered() {
 }
 
 #[test]
+fn no_file_is_answered() {
+    let none: *mut u8 = null_mut();
+    // SAFETY: no bytes, or a pointer and the length of a slice.
+    unsafe {
+        is_refusal(both_ways(|p| captions_vtt_read_room(p, 0)), 19, 1);
+        let read = both_ways(|p| captions_vtt_read(p, 0, none, 0, none, 0));
+        is_refusal(read, 19, 1);
+        let bare = b"WEBVTT".as_ptr();
+        let read = captions_vtt_read(bare, 6, none, 0, none, 0);
+        assert_eq!(read, CaptionsVttRead::zero());
+    }
+}
+
+#[test]
 fn no_room_is_answered() {
     let none: *mut u8 = null_mut();
     let (row, sample) = (b"\0\0\0\x01\0\0\0\x08", b"\0\0\0\x08vtte");
@@ -168,6 +183,12 @@ fn no_room_is_answered() {
         let (table, samples) = (row.as_ptr(), sample.as_ptr());
         let unpacked = captions_wvtt_unpack(1000, table, 8, samples, 8, none, 0, none, 0);
         assert_eq!((unpacked.refusal, unpacked.t), (DONE, 1));
+        let file = b"WEBVTT\n\n00:00.000 --> 00:01.000\nHi";
+        let (file, len) = (file.as_ptr(), file.len());
+        is_refusal(captions_vtt_read(file, len, none, 0, none, 0), 15, 0);
+        let mut records = [0u8; 24];
+        let records = records.as_mut_ptr();
+        is_refusal(captions_vtt_read(file, len, records, 24, none, 0), 15, 1);
         let text = b"WEBVTT".as_ptr();
         let entry = captions_wvtt_write_entry(text, 6, false, null(), 0, 1, none, 0);
         is_refusal(entry, 15, 0);
@@ -219,6 +240,7 @@ fn what_an_answer_leaves_free_is_0() {
     let mut random = Random::new(5);
     for _ in 0..5000 {
         free_in_wvtt(&mut random);
+        free_in_files(&mut random);
         free_in_tx3g(&mut random);
     }
 }
@@ -253,6 +275,19 @@ fn free_in_wvtt(random: &mut Random) {
         zero_beside_refusal(room, true);
         let room = captions_wvtt_unpack_room(other, row, table.len(), samples_at, samples.len());
         zero_beside_refusal(room, true);
+    }
+}
+
+fn free_in_files(random: &mut Random) {
+    let file = make::vtt_file(random);
+    let (at, len) = (file.as_ptr(), file.len());
+    let mut records = vec![0; random.below(100)];
+    let (out, out_len) = (records.as_mut_ptr(), records.len());
+    // SAFETY: pointers and lengths of slices.
+    unsafe {
+        zero_beside_refusal(captions_vtt_read_room(at, len), true);
+        let read = captions_vtt_read(at, len, out, out_len, null_mut(), 0);
+        zero_beside_refusal(read, true);
     }
 }
 

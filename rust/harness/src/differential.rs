@@ -2,6 +2,7 @@
 
 mod outputs;
 mod tx3g;
+mod vtt;
 mod wvtt;
 
 use std::collections::{BTreeMap, BTreeSet};
@@ -133,7 +134,7 @@ pub fn differential_round(
 type Compared = Result<(), Difference>;
 type Operation = fn(&mut Pair, &mut Random) -> Compared;
 
-const OPERATIONS: [Operation; 17] = [
+const OPERATIONS: [Operation; 18] = [
     compare_fields,
     compare_times,
     compare_texts,
@@ -148,6 +149,7 @@ const OPERATIONS: [Operation; 17] = [
     wvtt::compare_unpack,
     wvtt::compare_check,
     wvtt::compare_program,
+    vtt::compare_file,
     tx3g::compare_entry,
     tx3g::compare_sample,
     tx3g::compare_run,

@@ -7,6 +7,7 @@ mod program;
 mod text;
 mod track;
 mod tx3g;
+mod vtt;
 mod wvtt;
 
 pub use boxes::{box_of, step_input};
@@ -16,6 +17,7 @@ pub use program::{program_input, ProgramInput};
 pub use text::{any_text, bad_text, identifier, payload, tx3g_text};
 pub use track::{check_input, packed, unpack_input, Track};
 pub use tx3g::{run_input, sample_for, tx3g_entry, tx3g_input};
+pub use vtt::{damage_file, vtt_file};
 pub use wvtt::{configuration, entry_parts, wvtt_entry, wvtt_sample, EntryParts};
 
 use crate::random::Random;

@@ -21,5 +21,6 @@ pub use captions_model::pack::Packed;
 pub use captions_model::runs::{Look, Run, RunAt};
 pub use captions_model::tx3g::{Fields, Font, Modifier};
 pub use captions_model::unpack::Unpacked;
+pub use captions_model::vtt::Read as VttRead;
 pub use captions_model::wvtt::{Cue, Entry};
 pub use captions_model::{Fault, Refusal, Span, Who};

@@ -5,6 +5,7 @@ use captions_model::pack::Packed;
 use captions_model::runs::{Run, RunAt};
 use captions_model::tx3g::{Fields, Font, Modifier};
 use captions_model::unpack::Unpacked;
+use captions_model::vtt::Read as VttRead;
 use captions_model::wvtt::{Cue, Entry};
 use captions_model::{Fault, Refusal, Span, Who};
 
@@ -218,6 +219,21 @@ pub trait Library {
         table: &[u8],
         samples: &[u8],
     ) -> Offered<Result<(), Fault>> {
+        None
+    }
+
+    /// What reading a WebVTT file answers given room for everything.
+    fn read_vtt_room(&self, file: &[u8]) -> Offered<Result<VttRead, Refusal>> {
+        None
+    }
+
+    /// Reads a WebVTT file into records and a pool.
+    fn read_vtt(
+        &self,
+        file: &[u8],
+        records: &mut [u8],
+        pool: &mut [u8],
+    ) -> Offered<Result<VttRead, Refusal>> {
         None
     }
 

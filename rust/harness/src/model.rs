@@ -5,6 +5,7 @@ use captions_model::pack::{self, Packed};
 use captions_model::runs::{self, Run, RunAt};
 use captions_model::tx3g::{self, Fields, Font, Modifier};
 use captions_model::unpack::{self, Unpacked};
+use captions_model::vtt::{self, Read as VttRead};
 use captions_model::wvtt::{self, Cue, Entry};
 use captions_model::{check, list, program, text, time, track, Fault, Refusal};
 
@@ -179,6 +180,19 @@ impl Library for Model {
         samples: &[u8],
     ) -> Offered<Result<(), Fault>> {
         Some(check::check(scale, t, records, pool, table, samples))
+    }
+
+    fn read_vtt_room(&self, file: &[u8]) -> Offered<Result<VttRead, Refusal>> {
+        Some(vtt::room(file))
+    }
+
+    fn read_vtt(
+        &self,
+        file: &[u8],
+        records: &mut [u8],
+        pool: &mut [u8],
+    ) -> Offered<Result<VttRead, Refusal>> {
+        Some(vtt::read(file, records, pool))
     }
 
     fn read_tx3g_entry(&self, entry: &[u8]) -> Offered<Result<Fields, Refusal>> {

@@ -1,20 +1,24 @@
-//! Runs every row and every foreign track against a library.
+//! Runs every row, every foreign track and every foreign file against a library.
 
+mod files;
 mod foreign;
 
 use std::fmt::{self, Debug, Display};
 use std::path::Path;
 use std::{fs, io};
 
+use captions_model::list::RECORD;
 use captions_model::number::NO_ROOM;
 use captions_model::pack::Packed;
 use captions_model::unpack::Unpacked;
+use captions_model::vtt::Read as VttRead;
 use captions_model::wvtt::Cue;
 use captions_model::{Fault, Refusal, Who};
 
 use crate::library::Library;
 use crate::rows::{bytes, hex, number, who, Form, Refused, Row};
 
+use files::run_files;
 use foreign::{run_foreign, run_foreign_programs};
 
 /// What became of a row.
@@ -118,8 +122,8 @@ const OFFSETS: Form = Form {
     offsets: true,
     ..PLACES
 };
-/// Rows with the flag `notes` first: 1 where records, samples and tracks hold notes. Such a row
-/// holds when they do, and is left for later.
+/// Rows with the flag `notes` first: 1 where records, samples and tracks hold notes and reading a
+/// file keeps them. Such a row holds when they do, and is left for later.
 const NOTES: Form = Form {
     flags: 1,
     ..OFFSETS
@@ -141,7 +145,7 @@ const BLINKING: Form = Form {
     ..OFFSETS
 };
 
-const RUNNERS: [(&str, Form, Runner); 23] = [
+const RUNNERS: [(&str, Form, Runner); 24] = [
     ("text.tsv", PLACES, run_text),
     ("sample.tsv", PLACES, run_sample),
     ("wvtt_entry.tsv", PLACES, run_wvtt_entry),
@@ -163,11 +167,12 @@ const RUNNERS: [(&str, Form, Runner); 23] = [
     ("02/track.tsv", ANY_CTIM_NOTES, run_track),
     ("02/unpack.tsv", ANY_CTIM_NOTES, run_unpack),
     ("02/check.tsv", CTIM_NOTES, run_check),
+    ("02/read_vtt.tsv", NOTES, run_read_vtt),
     ("02/tx3g_entry.tsv", OFFSETS, run_tx3g_entry),
     ("02/tx3g_sample.tsv", BLINKING, run_tx3g_sample),
 ];
 
-/// Runs all rows and foreign tracks below `dir`.
+/// Runs all rows, foreign tracks and foreign files below `dir`.
 pub fn run_vectors(library: &dyn Library, dir: &Path) -> io::Result<Report> {
     let mut files = Vec::new();
     for (name, form, runner) in RUNNERS {
@@ -175,6 +180,7 @@ pub fn run_vectors(library: &dyn Library, dir: &Path) -> io::Result<Report> {
     }
     files.push(run_foreign(library, &dir.join("foreign"))?);
     files.push(run_foreign_programs(library, &dir.join("foreign/wvtt"))?);
+    files.push(run_files(library, &dir.join("foreign/vtt"))?);
     Ok(Report { files })
 }
 
@@ -314,12 +320,23 @@ fn holds(out: &[u8], result: &[u8]) -> bool {
 /// A count and two lengths.
 type Sizes = (u64, usize, usize);
 
+/// The count and the two outputs that a row gives. Where it gives only records and a pool, the
+/// count is the records'.
+fn results(more: &[&str]) -> (u64, [Vec<u8>; 2]) {
+    match *more {
+        [records, pool] => {
+            let records = bytes(records);
+            ((records.len() / RECORD) as u64, [records, bytes(pool)])
+        }
+        _ => (number(more[0]), [bytes(more[1]), bytes(more[2])]),
+    }
+}
+
 /// Compares a count and two written outputs with a row's.
 fn compare_written(got: Option<Result<Sizes, Refusal>>, outputs: [&[u8]; 2], row: &Row) -> Verdict {
     let (expected, more) = row.judged();
-    let count = number(more[0]);
-    let wanted = match expected {
-        Ok(()) => [bytes(more[1]), bytes(more[2])],
+    let (count, wanted) = match expected {
+        Ok(()) => results(more),
         Err(_) => Default::default(),
     };
     let expected = expected.map(|()| (count, wanted[0].len(), wanted[1].len()));
@@ -346,8 +363,8 @@ fn compare_room(got: Option<Result<Sizes, Refusal>>, row: &Row) -> Verdict {
     let (expected, more) = row.judged();
     match expected {
         Ok(()) => {
-            let lengths = [1, 2].map(|at| bytes(more[at]).len());
-            compare_judged(got, Ok((number(more[0]), lengths[0], lengths[1])))
+            let (count, [first, second]) = results(more);
+            compare_judged(got, Ok((count, first.len(), second.len())))
         }
         Err(refused) if refused.number == NO_ROOM => {
             let rooms = row.inputs.len() - 2;
@@ -378,6 +395,18 @@ fn run_unpack(library: &dyn Library, row: &Row) -> Verdict {
     let got = library.unpack(row.time(0), &table, &samples, &mut records, &mut pool);
     let got = got.map(|unpacked| unpacked.map(sizes));
     let room = library.unpack_room(row.time(0), &table, &samples);
+    let room = compare_room(room.map(|room| room.map(sizes)), row);
+    both(compare_written(got, [&records, &pool], row), room)
+}
+
+fn run_read_vtt(library: &dyn Library, row: &Row) -> Verdict {
+    let file = row.bytes(0);
+    let mut records = vec![UNTOUCHED; row.size(1)];
+    let mut pool = vec![UNTOUCHED; row.size(2)];
+    let sizes = |r: VttRead| (r.cues as u64, r.record_bytes, r.pool_bytes);
+    let got = library.read_vtt(&file, &mut records, &mut pool);
+    let got = got.map(|read| read.map(sizes));
+    let room = library.read_vtt_room(&file);
     let room = compare_room(room.map(|room| room.map(sizes)), row);
     both(compare_written(got, [&records, &pool], row), room)
 }

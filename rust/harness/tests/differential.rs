@@ -2,11 +2,11 @@
 
 use captions_harness::{
     differential, Counts, Entry, Fault, Font, Library, Model, Offered, Packed, Refusal, Run, RunAt,
-    RunInput, TextBoxAt, Tx3gSample, Unpacked, Who,
+    RunInput, TextBoxAt, Tx3gSample, Unpacked, VttRead, Who,
 };
 use captions_model::{list, text};
 
-const ROUNDS: u64 = 30_000;
+const ROUNDS: u64 = 60_000;
 
 fn compared() -> Counts {
     differential(&Model, &Model, 1, ROUNDS).unwrap_or_else(|d| panic!("{d}"))
@@ -50,6 +50,7 @@ fn every_number_is_reached() {
     reached("next_run", &[0]);
     reached("next_modifier", &[0, 1, 2]);
     reached("program", &[0, 1, 6, 8, 9, 10, 11, 12, 15]);
+    reached("read_vtt", &[0, 6, 9, 10, 11, 15, 18, 19]);
 }
 
 /// Wherever a text is judged, texts are bad at the first offsets and at so many in all.
@@ -77,6 +78,7 @@ fn many_offsets_are_reached() {
     reached("judge_track", 30);
     reached("unpack", 30);
     reached("check", 30);
+    reached("read_vtt", 30);
     reached("read_tx3g_sample", 30);
     reached("style", 30);
     reached("text_box", 30);
@@ -369,6 +371,72 @@ impl Library for CountsFromTheSample {
     }
 }
 
+/// Takes a CR for a letter of its line, but before LF.
+struct NoCarriageReturns;
+
+impl Library for NoCarriageReturns {
+    fn read_vtt_room(&self, file: &[u8]) -> Offered<Result<VttRead, Refusal>> {
+        let letter = |(at, &byte): (usize, &u8)| match (byte, file.get(at + 1)) {
+            (b'\r', after) if after != Some(&b'\n') => b'r',
+            _ => byte,
+        };
+        let file: Vec<u8> = file.iter().enumerate().map(letter).collect();
+        Model.read_vtt_room(&file)
+    }
+}
+
+/// Counts LF and nothing else for the line.
+struct CountsLineFeeds;
+
+impl Library for CountsLineFeeds {
+    fn read_vtt_room(&self, file: &[u8]) -> Offered<Result<VttRead, Refusal>> {
+        let answer = Model.read_vtt_room(file)?;
+        let most = 1 + file.iter().filter(|&&b| b == b'\n').count();
+        Some(answer.map_err(|r| Refusal {
+            place: r.place.min(most),
+            ..r
+        }))
+    }
+}
+
+/// Writes the records where the pool is too short.
+struct WritesRecordsFirst;
+
+impl Library for WritesRecordsFirst {
+    fn read_vtt(
+        &self,
+        file: &[u8],
+        records: &mut [u8],
+        pool: &mut [u8],
+    ) -> Offered<Result<VttRead, Refusal>> {
+        let answer = Model.read_vtt(file, records, pool)?;
+        if answer == Err(Refusal::new(15, 1)) {
+            let mut other = vec![0; file.len()];
+            Model.read_vtt(file, records, &mut other)?.ok()?;
+        }
+        Some(answer)
+    }
+}
+
+/// Counts IDs from 1.
+struct CountsFromOne;
+
+impl Library for CountsFromOne {
+    fn read_vtt(
+        &self,
+        file: &[u8],
+        records: &mut [u8],
+        pool: &mut [u8],
+    ) -> Offered<Result<VttRead, Refusal>> {
+        let answer = Model.read_vtt(file, records, pool)?;
+        let read = answer.map_or(0, |read| read.record_bytes);
+        for (id, record) in (1u32..).zip(records[..read].chunks_exact_mut(24)) {
+            record[..4].copy_from_slice(&id.to_be_bytes());
+        }
+        Some(answer)
+    }
+}
+
 #[test]
 fn wrong_libraries_are_found() {
     assert_found(&ClearsTheRest, "pack");
@@ -388,6 +456,10 @@ fn wrong_libraries_are_found() {
     assert_found(&LastBadText, "pack");
     assert_found(&StartsOfCharacters, "judge_utf8");
     assert_found(&CountsFromTheSample, "read_tx3g_sample");
+    assert_found(&NoCarriageReturns, "read_vtt_room");
+    assert_found(&CountsLineFeeds, "read_vtt_room");
+    assert_found(&WritesRecordsFirst, "read_vtt");
+    assert_found(&CountsFromOne, "read_vtt");
 }
 
 #[test]

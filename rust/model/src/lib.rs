@@ -1,5 +1,6 @@
 //! A plain model of the captions library: WebVTT (`wvtt`) and 3GPP text (`tx3g`)
-//! samples and sample entries, cue lists, tracks, packing, unpacking and the check.
+//! samples and sample entries, cue lists, tracks, packing, unpacking and the check, and
+//! WebVTT files.
 //!
 //! All inputs and outputs are lent byte slices. A refusal gives a number, a place and an
 //! offset, and leaves every output as it was.
@@ -16,6 +17,7 @@ mod timeline;
 pub mod track;
 pub mod tx3g;
 pub mod unpack;
+pub mod vtt;
 pub mod wvtt;
 
 /// The numbers of refusals.
@@ -54,6 +56,10 @@ pub mod number {
     pub const DIFFERS: u32 = 16;
     /// A cue without ID, in unpacking.
     pub const NO_ID: u32 = 17;
+    /// A STYLE or REGION block of a file.
+    pub const STYLE_BLOCK: u32 = 18;
+    /// A line or block of a file that may not stand there.
+    pub const MALFORMED: u32 = 19;
 }
 
 /// Why something was refused, and where.

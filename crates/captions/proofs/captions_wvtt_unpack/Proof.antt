@@ -1,6 +1,6 @@
 -- `captions::captions_wvtt_unpack` meets its contract: the answer of the operation, as C sees it.
 use Rattle.captions.specs.Flat.{flatUnpacked}
-use Rattle.unpack_write.specs.Records.{recordsOf, poolOf}
+use Rattle.records_write.specs.Records.{recordsOf, poolOf}
 use Rattle.unpack.specs.Unpacking.{trackCues, outOf}
 use Rattle.unpack.specs.declared.Unpacked.{Unpacked}
 use mathlib.Core.Path.{ap, _∙_}

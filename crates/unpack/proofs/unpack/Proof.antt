@@ -1,7 +1,7 @@
 use mathlib.Core.List.{List}
 use mathlib.Core.Path.{_∙_, ap, refl, subst}
 use Rattle.timeline.specs.Cues.{Cue}
-use Rattle.unpack_write.specs.Records.{recordsOf, poolOf}
+use Rattle.records_write.specs.Records.{recordsOf, poolOf}
 use Rattle.unpack.specs.Unpacking.{roomed, outOf, unpackOf}
 use Rattle.unpack.specs.Rows.{ReadAs}
 use Rattle.unpack.proofs.Laws.{rows-answer}

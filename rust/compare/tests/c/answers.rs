@@ -1,6 +1,8 @@
 //! What programs get through the header.
 
-use crate::{compile, program, run, run_file, top};
+use std::fs;
+
+use crate::{compile, program, run, run_file, run_in_folder, top};
 
 const EXPECTED: &str = include_str!("c_test.expected");
 const SOURCE: &str = "rust/compare/tests/c/c_test.c";
@@ -46,4 +48,32 @@ fn the_examples_run() {
         "UTF-8 Hello\ncharacters 0 to 2 bold\ncharacters 2 to 5\n",
     );
     assert_eq!(read, format!("{entry}{runs}"));
+}
+
+/// The files that the example writes are those that the Rust crate reads; of a file that is refused
+/// it writes none.
+#[test]
+fn the_example_of_files_runs() {
+    let (source, built) = (top().join("examples/c/vtt.c"), program("vtt"));
+    compile("cc", &["-std=c99"], &source, &built);
+    let (output, folder) = run_in_folder(&built, "examples/vtt/saws.vtt");
+    assert_eq!(output.status.code(), Some(0));
+    assert_eq!(
+        output.stdout,
+        b"7 cues: 168 bytes of records, 335 of pool\n"
+    );
+    let file = fs::read(top().join("examples/vtt/saws.vtt")).expect("the file is there");
+    let list = captions::vtt::read(&file).expect("the file is good");
+    let written = ["cues.rec", "cues.pool"].map(|name| fs::read(folder.join(name)).ok());
+    assert_eq!(
+        written,
+        [list.records(), list.pool()].map(|b| Some(b.to_vec()))
+    );
+    let (output, folder) = run_in_folder(&built, "examples/vtt/style.vtt");
+    assert_eq!(output.status.code(), Some(1));
+    assert_eq!(output.stdout, b"refused 18 9\na STYLE or REGION block\n");
+    assert_eq!(fs::read_dir(folder).map(Iterator::count).ok(), Some(0));
+    let (output, _) = run_in_folder(&built, "rust/vectors/foreign/vtt/latin-1.vtt");
+    assert_eq!(output.status.code(), Some(1));
+    assert_eq!(output.stdout, b"refused 6 4\nbad text, byte 7\n");
 }

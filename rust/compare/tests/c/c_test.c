@@ -22,6 +22,13 @@
 #define BAD_RECORDS RECORD RECORD "\0\0\0\x09\0\0\0\0\0\0\x03\xe8\0\0\0\2\0\0\0\6\0\1\0\0"
 #define BAD_POOL "Hialign\xff\0"
 
+/* Two cues, of which the second has all texts; and a payload that is bad at its fifth byte, behind a note. */
+#define VTT_FILE "WEBVTT\n\n00:01.000 --> 00:02.500\n\nab\n00:00:02.000 --> 00:00:03.000 cde\nf\nhi\n"
+#define VTT_RECORDS                                                                                                                        \
+    "\0\0\0\0\0\0\x03\xe8\0\0\x09\xc4\0\0\0\0\0\0\0\0\0\0\0\0"                                                                            \
+    "\0\0\0\1\0\0\x07\xd0\0\0\x0b\xb8\0\0\0\0\0\2\0\3\0\4\0\0"
+#define BAD_VTT_FILE "WEBVTT\r\rNOTE\r\r00:01.000 --> 00:02.500\rH\r-->"
+
 /* Every field has another value; two fonts. */
 #define TX3G_ENTRY                                                                                                                         \
     "\0\0\0\x43tx3g\0\0\0\0\0\0\1\2\3\4\5\6\xff\1\7\x08\x09\x0a\xff\xf5\xff\xf4\0\x0d\0\x0e\0\0\0\0\x0f\x10\x11\x12\x13\x14\x15\x16"    \
@@ -75,6 +82,11 @@ static void packed(CaptionsPacked p) {
 static void unpacked(CaptionsUnpacked u) {
     refusal("unpack", u.refusal);
     printf(": %zu %zu %u\n", u.record_bytes, u.pool_bytes, u.t);
+}
+
+static void vtt_read(CaptionsVttRead r) {
+    refusal("read", r.refusal);
+    printf(": %zu %zu %zu\n", r.cues, r.record_bytes, r.pool_bytes);
 }
 
 static void checked(CaptionsChecked c) {
@@ -231,6 +243,25 @@ static void unpacking(void) {
     printf("same %d %d %x %x\n", memcmp(records, RECORD, 24), memcmp(pool, "Hi", 2), records[24], pool[2]);
 }
 
+static void vtt_files(void) {
+    uint8_t records[72], pool[16];
+    memset(records, 0xa5, sizeof records);
+    memset(pool, 0xa5, sizeof pool);
+    vtt_read(captions_vtt_read_room(TEXT(VTT_FILE)));
+    vtt_read(captions_vtt_read_room(TEXT(BAD_VTT_FILE)));
+    vtt_read(captions_vtt_read_room(TEXT("WEBVTT")));
+    vtt_read(captions_vtt_read_room(NONE));
+    vtt_read(captions_vtt_read(TEXT(BAD_VTT_FILE), records, sizeof records, pool, sizeof pool));
+    vtt_read(captions_vtt_read(TEXT(VTT_FILE "\nSTYLE"), records, sizeof records, pool, sizeof pool));
+    vtt_read(captions_vtt_read(TEXT(VTT_FILE), records, 47, pool, sizeof pool));
+    vtt_read(captions_vtt_read(TEXT(VTT_FILE), records, sizeof records, pool, 8));
+    vtt_read(captions_vtt_read(TEXT(VTT_FILE), NONE, NONE));
+    vtt_read(captions_vtt_read(NONE, NONE, NONE));
+    printf("untouched %x %x\n", records[0], pool[0]);
+    vtt_read(captions_vtt_read(TEXT(VTT_FILE), records, sizeof records, pool, sizeof pool));
+    printf("same %d %d %x %x\n", memcmp(records, VTT_RECORDS, 48), memcmp(pool, "abcdef\nhi", 9), records[48], pool[9]);
+}
+
 static void checks(void) {
     checked(captions_wvtt_check(90000, 1000, TEXT(RECORD), TEXT("Hi"), TEXT(TABLE), TEXT(SAMPLE)));
     checked(captions_wvtt_check(90000, 1000, TEXT(RECORD), TEXT("Ho"), TEXT(TABLE), TEXT(SAMPLE)));
@@ -296,7 +327,7 @@ static void modifiers(void) {
 
 int main(void) {
     printf("%s %d %d %d\n", CAPTIONS_VERSION, CAPTIONS_VERSION_MAJOR, CAPTIONS_VERSION_MINOR, CAPTIONS_VERSION_PATCH);
-    printf("%s, %s, %s\n", captions_reason(CAPTIONS_DONE), captions_reason(CAPTIONS_NO_ID), captions_reason(CAPTIONS_NO_ID + 1));
+    printf("%s, %s, %s\n", captions_reason(CAPTIONS_DONE), captions_reason(CAPTIONS_MALFORMED), captions_reason(CAPTIONS_MALFORMED + 1));
     texts();
     boxes_and_times();
     wvtt_samples();
@@ -305,6 +336,7 @@ int main(void) {
     packing();
     unpacking();
     checks();
+    vtt_files();
     tx3g_entries();
     tx3g_samples();
     runs();

@@ -36,7 +36,7 @@ fn assert_same(one: &Declared, other: &Declared) {
 fn rust_declares_what_the_header_does() {
     let (c, rust) = (header(&c_header()), rust(&read("rust/captions/src/ffi.rs")));
     assert_same(&c, &rust);
-    assert_eq!((c.structs.len(), c.functions.len()), (16, 28));
+    assert_eq!((c.structs.len(), c.functions.len()), (17, 30));
 }
 
 /// The sources of a Rattle crate.
@@ -57,7 +57,7 @@ fn rattle_declares_what_the_header_does() {
     assert_same(&header(&c_header()), &found);
 }
 
-const REASONS: [Reason; 17] = [
+const REASONS: [Reason; 19] = [
     Reason::BytesMissing,
     Reason::BadSize,
     Reason::KindTwice,
@@ -75,6 +75,8 @@ const REASONS: [Reason; 17] = [
     Reason::NoRoom,
     Reason::Differs,
     Reason::NoId,
+    Reason::StyleBlock,
+    Reason::Malformed,
 ];
 
 /// `BadText` as `BAD_TEXT`.
@@ -128,7 +130,7 @@ fn the_words_are_the_same() {
         "words",
         "#include <captions.h>\n#include <stdio.h>\n\
          int main(void) {\n\
-         for (unsigned n = 0; n < 20; n++) puts(captions_reason(n));\n\
+         for (unsigned n = 0; n < 22; n++) puts(captions_reason(n));\n\
          puts(captions_reason(0xffffffff));\n\
          puts(CAPTIONS_VERSION);\n\
          return 0; }\n",

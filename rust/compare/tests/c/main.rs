@@ -9,7 +9,7 @@ use std::env;
 use std::ffi::OsString;
 use std::fs;
 use std::path::{Path, PathBuf};
-use std::process::Command;
+use std::process::{Command, Output};
 
 /// The top of the tree.
 fn top() -> PathBuf {
@@ -62,6 +62,16 @@ fn run(program: &Path) -> String {
 fn run_file(source: &str, name: &str) -> String {
     compile("cc", &["-std=c99"], &top().join(source), &program(name));
     run(&program(name))
+}
+
+/// Runs a program on a file of the tree in an empty folder, which is given too.
+fn run_in_folder(program: &Path, file: &str) -> (Output, PathBuf) {
+    let folder = program.with_extension("folder");
+    fs::remove_dir_all(&folder).ok();
+    fs::create_dir(&folder).expect("a folder can be made");
+    let mut command = Command::new(program);
+    command.arg(top().join(file)).current_dir(&folder);
+    (command.output().expect("the program runs"), folder)
 }
 
 /// Runs a C program that is given as text.

@@ -1,0 +1,73 @@
+-- The bytes before i are lined, and i is inside the text.
+use Prim.Native.Nat.{_-_, _<_}
+use mathlib.Core.Path.{refl, sym, _∙_}
+use native.Mathlib.Omega.{arith}
+use borrow.Author.Tests.{not-false}
+use Rattle.base.proofs.Choice.{true-false}
+use Rattle.utf8.proofs.Machine.{unmarked-keeps}
+use Rattle.text.proofs.Marks.{linedAt, Passes, none-pass, lined-more, lined-last, lined-keeps}
+use borrow.Author.Needs.{needs}
+use Rattle.text.proofs.is_lined.Statement.{statement}
+use Rattle.text.proofs.is_lined.Tie as tie
+
+abbrev Inv-loop : tie.InvT-loop
+Inv-loop s n last i₀ i = (i < n) × Passes (linedAt s) 0 i
+
+abbrev μ-loop : tie.MeasureT-loop
+μ-loop s n last i₀ i = n - i
+
+is-unmarked-requires : tie.Need-is-unmarked-requires Inv-loop μ-loop
+is-unmarked-requires c κs = search needs
+
+returns : tie.Need-returns Inv-loop μ-loop
+returns c h = sym (unmarked-keeps _ _ (λ j. c .before .before .shared-slice-known .given j .fits) (sym (c .is-unmarked .ensures) ∙ h))
+
+is-unmarked-requires-2 : tie.Need-is-unmarked-requires-2 Inv-loop μ-loop
+is-unmarked-requires-2 c κs = search needs
+
+returns-2 : tie.Need-returns-2 Inv-loop μ-loop
+returns-2 c h = sym (unmarked-keeps _ _ (λ j. c .before .before .before .shared-slice-known .given j .fits) (sym (c .is-unmarked2 .ensures) ∙ h))
+
+loop-holds : tie.Need-loop-holds Inv-loop μ-loop
+loop-holds c = (omega arith, none-pass _)
+
+is-lined8-requires : tie.Need-is-lined8-requires Inv-loop μ-loop
+is-lined8-requires c κs = omega arith
+
+returns-3 : tie.Need-returns-3 Inv-loop μ-loop
+returns-3 c h = true-false _ h refl
+
+add-i : tie.Need-add-i Inv-loop μ-loop
+add-i c = omega arith
+
+loop-less : tie.Need-loop-less Inv-loop μ-loop
+loop-less c = omega arith
+
+loop-again : tie.Need-loop-again Inv-loop μ-loop
+loop-again c =
+    (omega (arith, c .before .before .loop-test .taken), lined-more _ _ 8 (c .before .before .before .loop .inv .1) (sym (c .before .is-lined8 .ensures) ∙ not-false (c .before .is-lined8 .result) (c .if3 .left)))
+
+is-unmarked8-requires : tie.Need-is-unmarked8-requires Inv-loop μ-loop
+is-unmarked8-requires c κs = omega arith
+
+returns-4 : tie.Need-returns-4 Inv-loop μ-loop
+returns-4 c h = lined-keeps _ (λ j. c .before .before .before .before .before .shared-slice-known .given j .fits) (lined-last _ _ 8 _ (omega arith) (c .before .loop-test .left) (c .before .before .loop .inv .1) (sym (c .is-unmarked8 .ensures) ∙ h))
+
+pub is-lined-spec : {M : Type 1} → statement M
+is-lined-spec =
+    tie.close
+    (tie.spec
+    Inv-loop
+    μ-loop
+    is-unmarked-requires
+    returns
+    is-unmarked-requires-2
+    returns-2
+    loop-holds
+    is-lined8-requires
+    returns-3
+    add-i
+    loop-less
+    loop-again
+    is-unmarked8-requires
+    returns-4)

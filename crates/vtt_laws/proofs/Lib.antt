@@ -1,0 +1,7 @@
+pub mod Sound
+pub mod Records
+pub mod Read
+pub mod Arrows
+pub mod Blocks
+pub mod Lines
+pub mod Refused

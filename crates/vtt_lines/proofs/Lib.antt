@@ -1,0 +1,6 @@
+pub mod Lines
+pub mod Places
+pub mod Blocks
+pub mod Arrows
+pub mod Gathering
+pub mod Scanning

@@ -1,0 +1,4 @@
+pub mod Runs
+pub mod Grammar
+pub mod Laws
+pub mod Usual
