@@ -7,8 +7,7 @@ use native.Mathlib.Omega.{arith}
 use native.Mathlib.Nat.{add-zero}
 use native.Mathlib.Numerals.{add-one}
 use borrow.Author.Tests.{eq-eqb, ne-eqb, leb-true, leb-false, not-true}
-use lib.Bits.{bitOr}
-use lib.Dec.{eqb, leb}
+use lib.Dec.{leb}
 use lib.ListN.{length, take, drop, getD, drop-of-length-le, length-drop}
 use lib.Seq.{drop-cons}
 use Rattle.base.specs.Choice.{pick, both}
@@ -16,7 +15,6 @@ use Rattle.base.specs.Iter.{iter}
 use Rattle.base.proofs.Choice.{both-left, both-right}
 use Rattle.base.proofs.Tests.{both-no}
 use Rattle.ascii.specs.Ascii.{all}
-use Rattle.ascii.proofs.Blocks.{or-none, mark-none}
 use Rattle.utf8.specs.Strings.{CR, LF, startsWith}
 use Rattle.vtt_lines.specs.Lines.{crlf, lineEnd}
 use Rattle.vtt_lines.specs.Cursor.{low, high, run, endSize, lineAt, endAt, nextAt, foundAt, Ahead}
@@ -65,14 +63,6 @@ end-eight s at i h p e =
     let l = leb-true 8 (length s - i) (both-left (leb 8 (length s - i)) (all high s i 8) p) in
     let k : i + 8 ≤ length s = omega arith in
     (k, sym (end-stride s i 8 k (both-right (leb 8 (length s - i)) (all high s i 8) p)) ∙ e)
-
--- none of eight bytes ends a line, if their marks joined are 0
-pub inside-eight : (s : List ℕ) (i a b c d e f g h : ℕ) → a ≡ pick (low (getD s i 0)) 1 0 → b ≡ pick (low (getD s (i + 1) 0)) 1 0
-    → c ≡ pick (low (getD s (i + 2) 0)) 1 0 → d ≡ pick (low (getD s (i + 3) 0)) 1 0 → e ≡ pick (low (getD s (i + 4) 0)) 1 0
-    → f ≡ pick (low (getD s (i + 5) 0)) 1 0 → g ≡ pick (low (getD s (i + 6) 0)) 1 0 → h ≡ pick (low (getD s (i + 7) 0)) 1 0
-    → eqb (bitOr (bitOr (bitOr (bitOr (bitOr (bitOr (bitOr a b) c) d) e) f) g) h) 0 ≡ all high s i 8
-unfolding all high iter
-inside-eight s i a b c d e f g h ea eb ec ed ee ef eg eh = rw (ea, eb, ec, ed, ee, ef, eg, eh) (simp (or-none, mark-none, add-zero))
 
 -- ---- the place behind a line's end
 

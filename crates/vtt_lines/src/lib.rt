@@ -57,14 +57,12 @@ fn is_inside8(s: &[u8], i: usize) -> bool
     if s.len() - i < 8 {
         return false;
     }
-    let x = low_mark(s[i])
-        | low_mark(s[i + 1])
-        | low_mark(s[i + 2])
-        | low_mark(s[i + 3])
-        | low_mark(s[i + 4])
-        | low_mark(s[i + 5])
-        | low_mark(s[i + 6])
-        | low_mark(s[i + 7]);
+    let mut x = 0;
+    let mut k = 0;
+    while k < 8 {
+        x = x | low_mark(s[i + k]);
+        k += 1;
+    }
     x == 0
 }
 

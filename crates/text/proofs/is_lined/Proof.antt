@@ -16,14 +16,8 @@ Inv-loop s n last i₀ i = (i < n) × Passes (linedAt s) 0 i
 abbrev μ-loop : tie.MeasureT-loop
 μ-loop s n last i₀ i = n - i
 
-is-unmarked-requires : tie.Need-is-unmarked-requires Inv-loop μ-loop
-is-unmarked-requires c κs = search needs
-
 returns : tie.Need-returns Inv-loop μ-loop
 returns c h = sym (unmarked-keeps _ _ (λ j. c .before .before .shared-slice-known .given j .fits) (sym (c .is-unmarked .ensures) ∙ h))
-
-is-unmarked-requires-2 : tie.Need-is-unmarked-requires-2 Inv-loop μ-loop
-is-unmarked-requires-2 c κs = search needs
 
 returns-2 : tie.Need-returns-2 Inv-loop μ-loop
 returns-2 c h = sym (unmarked-keeps _ _ (λ j. c .before .before .before .shared-slice-known .given j .fits) (sym (c .is-unmarked2 .ensures) ∙ h))
@@ -31,24 +25,12 @@ returns-2 c h = sym (unmarked-keeps _ _ (λ j. c .before .before .before .shared
 loop-holds : tie.Need-loop-holds Inv-loop μ-loop
 loop-holds c = (omega arith, none-pass _)
 
-is-lined8-requires : tie.Need-is-lined8-requires Inv-loop μ-loop
-is-lined8-requires c κs = omega arith
-
 returns-3 : tie.Need-returns-3 Inv-loop μ-loop
 returns-3 c h = true-false _ h refl
-
-add-i : tie.Need-add-i Inv-loop μ-loop
-add-i c = omega arith
-
-loop-less : tie.Need-loop-less Inv-loop μ-loop
-loop-less c = omega arith
 
 loop-again : tie.Need-loop-again Inv-loop μ-loop
 loop-again c =
     (omega (arith, c .before .before .loop-test .taken), lined-more _ _ 8 (c .before .before .before .loop .inv .1) (sym (c .before .is-lined8 .ensures) ∙ not-false (c .before .is-lined8 .result) (c .if3 .left)))
-
-is-unmarked8-requires : tie.Need-is-unmarked8-requires Inv-loop μ-loop
-is-unmarked8-requires c κs = omega arith
 
 returns-4 : tie.Need-returns-4 Inv-loop μ-loop
 returns-4 c h = lined-keeps _ (λ j. c .before .before .before .before .before .shared-slice-known .given j .fits) (lined-last _ _ 8 _ (omega arith) (c .before .loop-test .left) (c .before .before .loop .inv .1) (sym (c .is-unmarked8 .ensures) ∙ h))
@@ -59,15 +41,15 @@ is-lined-spec =
     (tie.spec
     Inv-loop
     μ-loop
-    is-unmarked-requires
+    (λ c κs. search needs)
     returns
-    is-unmarked-requires-2
+    (λ c κs. search needs)
     returns-2
     loop-holds
-    is-lined8-requires
+    (λ c κs. omega arith)
     returns-3
-    add-i
-    loop-less
+    (λ c. omega arith)
+    (λ c. omega arith)
     loop-again
-    is-unmarked8-requires
+    (λ c κs. omega arith)
     returns-4)
