@@ -70,8 +70,16 @@ typedef struct CaptionsRefusal {
     size_t offset;
 } CaptionsRefusal;
 
-/* Who is at fault, where an operation reads two things. */
-enum { CAPTIONS_NOBODY = 0, CAPTIONS_ENTRY = 1, CAPTIONS_SAMPLE = 2, CAPTIONS_LIST = 3, CAPTIONS_TRACK = 4 };
+/* Who is at fault, where an operation is lent more than one thing. */
+enum {
+    CAPTIONS_NOBODY = 0,
+    CAPTIONS_ENTRY = 1,
+    CAPTIONS_SAMPLE = 2,
+    CAPTIONS_LIST = 3,
+    CAPTIONS_TRACK = 4,
+    CAPTIONS_CONFIGURATION = 5,
+    CAPTIONS_OUTPUT = 6
+};
 
 /* A refusal's number in a few words; of a number that is not in the table, "unknown". */
 static inline const char *captions_reason(uint32_t number) {
@@ -245,6 +253,25 @@ typedef struct CaptionsVttRead {
    records and 1 for the pool. The room is what reading answers where there is room. Both take up to 80 KiB of stack. */
 CaptionsVttRead captions_vtt_read_room(const uint8_t *file, size_t file_len);
 CaptionsVttRead captions_vtt_read(const uint8_t *file, size_t file_len, uint8_t *records, size_t records_len, uint8_t *pool, size_t pool_len);
+
+typedef struct CaptionsVttWritten {
+    CaptionsRefusal refusal;
+    uint32_t who; /* CAPTIONS_CONFIGURATION; CAPTIONS_LIST: the place is a record; CAPTIONS_OUTPUT, beside 15 */
+    size_t bytes;
+} CaptionsVttWritten;
+
+/* Writes a configuration and a cue list as a WebVTT file: the configuration, an empty line, then the cues with an empty line between them. A cue
+   is its identifier, its times as hh:mm:ss.mmm --> hh:mm:ss.mmm with its settings behind a space, and its payload. Every line ends in LF, the last
+   too; of an empty text nothing is written, and the others go out byte for byte.
+   Refused: 6, place 0, for a configuration that a wvtt entry could not hold; then the list as packing refuses it at scale 1,000 and
+   t 359,999,999; last 15, place 0. The room is what writing answers where there is room.
+   Reading the file gives the same times and texts in the same order, IDs counted from 0, where the configuration holds no empty line and no -->,
+   and its first line is WEBVTT, alone or with a space or tab behind it; no payload holds a CR; and no settings begin or end with a space, tab or
+   form feed. */
+CaptionsVttWritten captions_vtt_write_room(const uint8_t *configuration, size_t configuration_len, const uint8_t *records, size_t records_len,
+                                           const uint8_t *pool, size_t pool_len);
+CaptionsVttWritten captions_vtt_write(const uint8_t *configuration, size_t configuration_len, const uint8_t *records, size_t records_len,
+                                      const uint8_t *pool, size_t pool_len, uint8_t *file, size_t file_len);
 
 /* ---- 3GPP text: entries ---- */
 

@@ -1,10 +1,10 @@
 -- Laws of lists that are written from their front or from a place on.
-use Prim.Native.Nat.{ℕ, _+_, _≤_}
+use Prim.Native.Nat.{ℕ, _+_, _≤_, _<_}
 use mathlib.Core.Path.{_≡_, refl, sym, ap, _∙_}
-use mathlib.Core.List.{List, [], _++_, append-assoc, append-nil}
+use mathlib.Core.List.{List, [], _∷_, _++_, append-assoc, append-nil}
 use native.Mathlib.Omega.{arith}
 use native.Mathlib.Nat.{add-zero, add-assoc}
-use lib.ListN.{length, take, drop, length-append, length-drop, length-take, take-append-drop}
+use lib.ListN.{length, take, drop, set, length-append, length-drop, length-take, take-append-drop}
 use lib.Seq.{drop-at, paste, sets, sets-eq, take-at, drop-append-add, drop-drop, length-take-le}
 use Rattle.base.specs.Over.{over, wrote}
 
@@ -79,6 +79,25 @@ wrote-more d at next a b h e =
     ap (λ (q : List ℕ). q ++ b ++ drop (next + length b) (take at d ++ a ++ drop (at + length a) d)) t
     ∙ ap (λ (q : List ℕ). take at d ++ a ++ b ++ q) r
     ∙ ap (λ (q : List ℕ). q ++ drop (at + length (a ++ b)) d) (append-assoc (take at d) a b)
+
+-- the same of outputs that are known by what was written into each
+pub in-two : (d d₁ d₂ a b : List ℕ) (at p : ℕ) → d₁ ≡ wrote d at a → d₂ ≡ wrote d₁ p b → p ≡ at + length a → p ≤ length d → d₂ ≡ wrote d at (a ++ b)
+in-two d d₁ d₂ a b at p e f q h = f ∙ ap (λ (x : List ℕ). wrote x p b) e ∙ wrote-more d at p a b (omega arith) q
+
+pub in-three : (d d₁ d₂ d₃ a b e : List ℕ) (at p q : ℕ) → d₁ ≡ wrote d at a → d₂ ≡ wrote d₁ p b → d₃ ≡ wrote d₂ q e
+    → p ≡ at + length a → q ≡ p + length b → at + length a + length b ≤ length d → d₃ ≡ wrote d at (a ++ (b ++ e))
+in-three d d₁ d₂ d₃ a b e at p q e₁ e₂ e₃ hp hq h =
+    let l : length d₁ ≡ length d = ap length e₁ ∙ length-wrote d at a (omega arith) in
+    in-two d d₁ d₃ a (b ++ e) at p e₁ (in-two d₁ d₂ d₃ b e p q e₂ e₃ hq (omega arith)) hp (omega arith)
+
+-- a byte behind what was written, and a text behind a byte
+pub then-byte : (d d₁ a : List ℕ) (at p b : ℕ) → d₁ ≡ wrote d at a → p ≡ at + length a → p < length d → set d₁ p b ≡ wrote d at (a ++ b ∷ [])
+then-byte d d₁ a at p b e q h =
+    let l : length d₁ ≡ length d = ap length e ∙ length-wrote d at a (omega arith) in
+    in-two d d₁ (set d₁ p b) a (b ∷ []) at p e (sets-wrote d₁ p (b ∷ []) (omega arith)) q (omega arith)
+
+pub byte-then : (d d₁ a : List ℕ) (at p b : ℕ) → d₁ ≡ wrote (set d at b) p a → p ≡ at + 1 → p ≤ length d → d₁ ≡ wrote d at (b ∷ a)
+byte-then d d₁ a at p b e q h = in-two d (set d at b) d₁ (b ∷ []) a at p (sets-wrote d at (b ∷ []) (omega arith)) e q h
 
 -- the front of what was written, and what stands behind it
 pub take-over : (p d : List ℕ) (n : ℕ) → n ≡ length p → take n (over p d) ≡ p

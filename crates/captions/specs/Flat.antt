@@ -23,6 +23,8 @@ use Rattle.unpack.specs.declared.Unpacked.{Unpacked}
 use Rattle.unpack.specs.declared.Unpacked.the-variants.{Done as Listed, Refused as NotListed}
 use Rattle.vtt_read.specs.declared.FileRead.{FileRead}
 use Rattle.vtt_read.specs.declared.FileRead.the-variants.{Done as FileDone, Refused as FileRefused}
+use Rattle.vtt_write.specs.declared.FileWritten.{FileWritten}
+use Rattle.vtt_write.specs.declared.FileWritten.the-variants.{Done as FileOut, BadConfiguration, BadList as ListOut, NoRoom}
 use Rattle.conform.specs.declared.Checked.{Checked}
 use Rattle.conform.specs.declared.Checked.the-variants.{Passed, BadList, BadTrack}
 use Rattle.wvtt_entry.specs.declared.Entry.{Entry as WvttEntry}
@@ -59,6 +61,7 @@ use Rattle.captions.specs.declared.CaptionsRun.{CaptionsRun}
 use Rattle.captions.specs.declared.CaptionsPacked.{CaptionsPacked}
 use Rattle.captions.specs.declared.CaptionsUnpacked.{CaptionsUnpacked}
 use Rattle.captions.specs.declared.CaptionsVttRead.{CaptionsVttRead}
+use Rattle.captions.specs.declared.CaptionsVttWritten.{CaptionsVttWritten}
 use Rattle.captions.specs.declared.CaptionsStyle.{CaptionsStyle}
 use Rattle.captions.specs.declared.CaptionsTextBox.{CaptionsTextBox}
 use Rattle.captions.specs.declared.CaptionsModifier.{CaptionsModifier}
@@ -144,7 +147,14 @@ abbrev pub flatFile : FileRead → CaptionsVttRead
 flatFile (FileDone n a b) = record { refusal = nothing; cues = n; «record_bytes» = a; «pool_bytes» = b }
 flatFile (FileRefused r) = record { refusal = r; cues = 0; «record_bytes» = 0; «pool_bytes» = 0 }
 
--- what the check answers. Who is at fault: 1 an entry, 2 a sample, 3 a list, 4 a track, 0 nobody
+-- what writing a file answers. Who is at fault: 1 an entry, 2 a sample, 3 a list, 4 a track, 5 a configuration, 6 an output, 0 nobody
+abbrev pub flatFileWritten : FileWritten → CaptionsVttWritten
+flatFileWritten (FileOut n) = record { refusal = nothing; who = 0; bytes = n }
+flatFileWritten (BadConfiguration r) = record { refusal = r; who = 5; bytes = 0 }
+flatFileWritten (ListOut r) = record { refusal = r; who = 3; bytes = 0 }
+flatFileWritten (NoRoom r) = record { refusal = r; who = 6; bytes = 0 }
+
+-- what the check answers
 abbrev pub flatChecked : Checked → CaptionsChecked
 flatChecked Passed = record { refusal = nothing; who = 0 }
 flatChecked (BadList r) = record { refusal = r; who = 3 }

@@ -23,6 +23,7 @@ use verdict::fault_at;
 use verdict::text_at;
 use viable::Judged;
 use vtt_read::FileRead;
+use vtt_write::FileWritten;
 use wvtt_cues::Held;
 use wvtt_entry::Entry as WvttEntry;
 use wvtt_entry_write::Written;
@@ -44,6 +45,7 @@ ghost use Rattle.track.specs.Track.{judgeTrack};
 ghost use Rattle.pack.specs.Packing.{packedTrack, tableBytes, samplesBytes, packRoom, packedOf, after};
 ghost use Rattle.unpack.specs.Unpacking.{trackCues, unpackRoom, unpackOf, outOf};
 ghost use Rattle.vtt_read.specs.Reading.{fileRecords, filePool, readRoom, readOf, outOf as fileOut};
+ghost use Rattle.vtt_write.specs.Writing.{fileBytes, writeRoom, writtenOf as fileWritten, after as fileAfter};
 ghost use Rattle.records_write.specs.Records.{recordsOf, poolOf};
 ghost use Rattle.conform.specs.Conformance.{checked};
 ghost use Rattle.tx3g_read.specs.Entry.{readEntry as readTx3gEntry, fontIn};
@@ -52,7 +54,7 @@ ghost use Rattle.tx3g_runs.specs.Runs.{nextRun};
 ghost use Rattle.tx3g_style.specs.Style.{styleOf};
 ghost use Rattle.tx3g_box.specs.TextBox.{spotOf};
 ghost use Rattle.tx3g_modifiers.specs.Modifiers.{nextModifier};
-ghost use Rattle.captions.specs.Flat.{flatVerdict, flatText, flatCount, flatStep, noCue, flatHeld, msOf, flatPacked, flatUnpacked, flatFile, flatChecked, flatWvttEntry, flatWritten, flatFields, noFields, flatTx3gEntry, flatFont, noContent, flatContent, plainRun, flatRun, boxOf, noBox, flatSpot, noStyle, flatStyled, modifierOf, flatModifier, noModifier, flatModified};
+ghost use Rattle.captions.specs.Flat.{flatVerdict, flatText, flatCount, flatStep, noCue, flatHeld, msOf, flatPacked, flatUnpacked, flatFile, flatFileWritten, flatChecked, flatWvttEntry, flatWritten, flatFields, noFields, flatTx3gEntry, flatFont, noContent, flatContent, plainRun, flatRun, boxOf, noBox, flatSpot, noStyle, flatStyled, modifierOf, flatModifier, noModifier, flatModified};
 
 #[repr(C)]
 pub struct CaptionsCount {
@@ -106,6 +108,13 @@ pub struct CaptionsVttRead {
     pub cues: usize,
     pub record_bytes: usize,
     pub pool_bytes: usize,
+}
+
+#[repr(C)]
+pub struct CaptionsVttWritten {
+    pub refusal: Refusal,
+    pub who: u32,
+    pub bytes: usize,
 }
 
 #[repr(C)]
@@ -404,7 +413,34 @@ fn flat_file(f: FileRead) -> CaptionsVttRead
     }
 }
 
-// Who is at fault: 1 an entry, 2 a sample, 3 a list, 4 a track, 0 nobody.
+// Who is at fault: 1 an entry, 2 a sample, 3 a list, 4 a track, 5 a configuration, 6 an output, 0 nobody.
+fn flat_file_written(w: FileWritten) -> CaptionsVttWritten
+    ensures { λ r. ⌜ r ≡ flatFileWritten w ⌝ }
+{
+    match w {
+        FileWritten::Done(bytes) => CaptionsVttWritten {
+            refusal: fault_at(0, 0),
+            who: 0,
+            bytes,
+        },
+        FileWritten::BadConfiguration(why) => CaptionsVttWritten {
+            refusal: why,
+            who: 5,
+            bytes: 0,
+        },
+        FileWritten::BadList(why) => CaptionsVttWritten {
+            refusal: why,
+            who: 3,
+            bytes: 0,
+        },
+        FileWritten::NoRoom(why) => CaptionsVttWritten {
+            refusal: why,
+            who: 6,
+            bytes: 0,
+        },
+    }
+}
+
 fn flat_checked(c: Checked) -> CaptionsChecked
     ensures { λ r. ⌜ r ≡ flatChecked c ⌝ }
 {
@@ -1065,6 +1101,33 @@ pub extern "C" fn captions_vtt_read(
 {
     let f = vtt_read::read(file, &mut *records, &mut *pool);
     flat_file(f)
+}
+
+// The length that `captions_vtt_write` needs, or its refusal.
+#[no_mangle]
+pub extern "C" fn captions_vtt_write_room(
+    configuration: &[u8],
+    records: &[u8],
+    pool: &[u8],
+) -> CaptionsVttWritten
+    ensures { λ r. ⌜ r ≡ flatFileWritten (writeRoom (now (configuration .entry)) (now (records .entry)) (now (pool .entry))) ⌝ }
+{
+    flat_file_written(vtt_write::write_room(configuration, records, pool))
+}
+
+// Writes a configuration and a cue list as a WebVTT file.
+#[no_mangle]
+pub extern "C" fn captions_vtt_write(
+    configuration: &[u8],
+    records: &[u8],
+    pool: &[u8],
+    file: &mut [u8],
+) -> CaptionsVttWritten
+    ensures { λ r. ⌜ r ≡ flatFileWritten (fileWritten (now (configuration .entry)) (now (records .entry)) (now (pool .entry)) (length (now (file .entry)))) ⌝ }
+    ensures { λ r. ⌜ now (file .exit) ≡ fileAfter (fileWritten (now (configuration .entry)) (now (records .entry)) (now (pool .entry)) (length (now (file .entry)))) (fileBytes (now (configuration .entry)) (now (records .entry)) (now (pool .entry))) (now (file .entry)) ⌝ }
+{
+    let w = vtt_write::write(configuration, records, pool, &mut *file);
+    flat_file_written(w)
 }
 
 #[no_mangle]

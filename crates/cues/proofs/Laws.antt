@@ -13,17 +13,10 @@ use Rattle.base.proofs.Choice.{by-test, true-false}
 use Rattle.base.proofs.First.{first-none, first-some}
 use Rattle.verdict.specs.declared.Verdict.the-variants.{Fine}
 use Rattle.verdict.specs.Judgement.{refuse}
-use Rattle.records.specs.Records.{sourceId, startMs, endMs, textOffset, settingsOffset, payloadOffset, textsEnd, identifierLength, settingsLength, payloadLength, identifierOf, settingsOf, payloadOf, piece}
-use Rattle.records.proofs.Laws.{in-order}
+use Rattle.records.specs.Records.{sourceId, startMs, endMs, textOffset, settingsOffset, payloadOffset, textsEnd}
+use Rattle.records.proofs.Laws.{parts-are}
 use Rattle.cues.specs.Caption.{caption, judgeContent}
 use Rattle.cues.specs.Judgement.{pastPool, startBefore, captionOf, found, stoodEarlier, twiceAt, judgeIds}
-
--- the part from x to x + n
-part-is : (pool : List ℕ) (a b x n : ℕ) → a ≡ x → b ≡ x + n → take (b - a) (drop a pool) ≡ piece pool x n
-unfolding piece
-part-is pool a b x n p q =
-    let e : b - a ≡ n = omega arith in
-    ap (λ (k : ℕ). take k (drop a pool)) e ∙ ap (λ (k : ℕ). take n (drop k pool)) p
 
 pub in-pool : (recs pool : List ℕ) (i : ℕ) → pastPool recs pool i ≡ false → textsEnd recs i ≤ length pool
 unfolding pastPool
@@ -41,10 +34,8 @@ before-at recs (suc i) x h p =
 pub content-is : (scale T i : ℕ) (recs pool : List ℕ) (a b e l before start end : ℕ)
     → a ≡ textOffset recs i → b ≡ settingsOffset recs i → e ≡ payloadOffset recs i → l ≡ textsEnd recs i → before ≡ startBefore recs i → start ≡ startMs recs i → end ≡ endMs recs i
     → judgeContent scale T before (caption start end (take (b - a) (drop a pool)) (take (e - b) (drop b pool)) (take (l - e) (drop e pool))) i ≡ judgeContent scale T (startBefore recs i) (captionOf recs pool i) i
-unfolding captionOf identifierOf settingsOf payloadOf
-content-is scale T i recs pool a b e l before start end p q r s t u v =
-    let o = in-order recs i in
-    rw (part-is pool a b (textOffset recs i) (identifierLength recs i) p (q ∙ o .settings-at), part-is pool b e (settingsOffset recs i) (settingsLength recs i) q (r ∙ o .payload-at), part-is pool e l (payloadOffset recs i) (payloadLength recs i) r (s ∙ o .end-at), t, u, v)
+unfolding captionOf
+content-is scale T i recs pool a b e l before start end p q r s t u v = let w = parts-are recs pool i a b e l p q r s in rw (w .0, w .1, w .2, t, u, v)
 
 -- no record before j has the ID of record i
 abbrev pub Fresh : List ℕ → ℕ → ℕ → Type 0

@@ -45,10 +45,10 @@ module _ (file records pool recordsAfter poolAfter : List ℕ) (n r p : ℕ) (c 
   so : ReadSo file (length records) (length pool) n r p
   so = read-so file (length records) (length pool) n r p (sym (c .answers))
 
-  records-are : take r recordsAfter ≡ fileRecords file
+  pub records-are : take r recordsAfter ≡ fileRecords file
   records-are = ap (take r) (c .records-hold) ∙ take-over (fileRecords file) records r (so .records)
 
-  pool-is : take p poolAfter ≡ filePool file
+  pub pool-is : take p poolAfter ≡ filePool file
   pool-is = ap (take p) (c .pool-holds) ∙ take-over (filePool file) pool p (so .pool)
 
   sound : Sounds 0 (fileCues file)

@@ -68,6 +68,8 @@ use Rattle.vtt_timing.proofs.Grammar.{timing-means}
 use Rattle.vtt_read.specs.declared.FileRead.{FileRead}
 use Rattle.vtt_read.specs.declared.FileRead.the-variants.{Done as Reads, Refused as NotRead}
 use Rattle.vtt_read.specs.Reading.{unmarked, judgeFile, fileCues, fileRecords, filePool, answerBy as fileBy, readRoom, roomed as roomedFile, readOf}
+use Rattle.vtt_write.specs.declared.FileWritten.the-variants.{Done as FileDone, NoRoom}
+use Rattle.vtt_write.specs.Writing.{fileBytes, byBoth, writeRoom, lent as lentFile, writtenOf as fileWritten}
 use Rattle.vtt_laws.proofs.Refused.{numbers, refused-why}
 use Rattle.tx3g_modifiers.specs.declared.Held.the-variants.{One}
 use Rattle.tx3g_modifiers.specs.Modifiers.{whole, modifierOf, nextModifier}
@@ -76,8 +78,8 @@ use Rattle.tx3g_style.specs.Style.{inForce, stylesOf, styledBy, styleOf, faultO
 use Rattle.wvtt_entry_write.specs.declared.Written.the-variants.{Done as WrittenDone, Refused as NotWritten}
 use Rattle.wvtt_entry_write.specs.Writing.{entrySize, judgeLabel, judgeTexts as judgeEntryTexts, judgeWritten, unlessFaulty as unlessWritten, roomOf, lent, writtenOf}
 use Rattle.tx3g_box.specs.TextBox.{boxesOf, spotIn, spotBy, spotOf}
-use Rattle.demands.specs.Offsets.{bodyAt, Inside, InSample, InEntry, InWritten, InTexts, InRecord, InFile, InTrack, InText, InTx3g, Never}
-use Rattle.demands.specs.Refusals.{InTable, Listed, CheckListed, packing, unpacking, reading, writing, ofBox, ofCue, ofModifier, RefusalsAre}
+use Rattle.demands.specs.Offsets.{bodyAt, Inside, InSample, InEntry, InWritten, InConfiguration, InTexts, InRecord, InFile, InTrack, InText, InTx3g, Never}
+use Rattle.demands.specs.Refusals.{InTable, Listed, CheckListed, WriteListed, packing, unpacking, reading, writing, ofBox, ofCue, ofModifier, RefusalsAre}
 use Rattle.demands.proofs.Offsets.{offsets-are}
 
 -- ---- judgements
@@ -650,6 +652,23 @@ write-listed c l room = go (judgeWritten c l) (written-listed c l)
     go (Refused r) h = h
     go Fine h = short (ltb room (entrySize c l)) (entrySize c l)
 
+-- ---- a file that is written
+
+write-file-listed : (c records pool : List ℕ) (room : ℕ) → WriteListed c records pool (fileWritten c records pool room)
+unfolding fileWritten writeRoom fault
+write-file-listed c records pool room =
+    go (textAt 0 (judgedBy configurationText configurationBegun c)) (judgeList 1000 359999999 records pool) (length (fileBytes c records pool))
+    (text-at-listed (InConfiguration c) configurationText configurationBegun (offsets-are .configuration) 0 c (λ q f. (refl, f))) (list-listed 1000 359999999 records pool)
+  where
+    short : (t : Bool) (n : ℕ) → WriteListed c records pool (pick t (NoRoom (fault 15 0)) (FileDone n))
+    short true n = given Never true 15 0 refl
+    short false n = tt
+
+    go : (v w : Verdict) (n : ℕ) → Listed (InConfiguration c) v → Listed (InRecord records pool) w → WriteListed c records pool (lentFile room (byBoth v w n))
+    go (Refused r) w n h k = h
+    go Fine (Refused r) n h k = k
+    go Fine Fine n h k = short (ltb room n) n
+
 -- ---- all of them
 
 pub refusals-are : RefusalsAre
@@ -666,6 +685,7 @@ refusals-are = record {
   pack = pack-listed;
   unpack = unpack-listed;
   file = file-listed;
+  write-file = write-file-listed;
   tx3g-entry = tx3g-entry-listed Never;
   tx3g-sample = read-listed;
   modifier = λ s from. next-modifier-listed Never s (boxesIn s from (length s)) (boxes-listed Never s from (length s));

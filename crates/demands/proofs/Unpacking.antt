@@ -188,7 +188,7 @@ module _ (scale T : ℕ) (records pool : List ℕ) (fine-so : judgeList scale T 
   length-cues-is : length (cuesOf scale records pool) ≡ count records
   length-cues-is = length-cues scale T records pool
 
-  pool-length : length (poolOf (cuesOf scale records pool)) ≡ textBytes records (count records)
+  pub pool-length : length (poolOf (cuesOf scale records pool)) ≡ textBytes records (count records)
   unfolding poolOf
   pool-length = ap (λ (k : ℕ). length (poolTo (cuesOf scale records pool) k)) length-cues-is ∙ pool-to (count records) (omega arith)
 

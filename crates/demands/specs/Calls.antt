@@ -1,4 +1,4 @@
--- Calls of the four operations: what they were lent, what they answered, and what their outputs hold afterwards. Each record is the contract of its function;
+-- Calls of the operations: what they were lent, what they answered, and what their outputs hold afterwards. Each record is the contract of its function;
 -- src/lib.rt has it proved of the function itself. The demands below are about every call.
 use Prim.Native.Nat.{ℕ}
 use mathlib.Core.Path.{_≡_}
@@ -13,6 +13,8 @@ use Rattle.unpack.specs.declared.Unpacked.{Unpacked}
 use Rattle.unpack.specs.Unpacking.{trackCues, unpackOf, outOf}
 use Rattle.vtt_read.specs.declared.FileRead.{FileRead}
 use Rattle.vtt_read.specs.Reading.{fileRecords, filePool, readOf, outOf as fileOut}
+use Rattle.vtt_write.specs.declared.FileWritten.{FileWritten}
+use Rattle.vtt_write.specs.Writing.{fileBytes, writtenOf, after as fileAfter}
 
 -- `pack::pack`, which is lent a table and samples to write
 pub record PackCall (scale T : ℕ) (records pool table samples tableAfter samplesAfter : List ℕ) (answer : Packed) : Type 0 where
@@ -35,3 +37,8 @@ pub record ReadCall (file records pool recordsAfter poolAfter : List ℕ) (answe
   pub answers : answer ≡ readOf file (length records) (length pool)
   pub records-hold : recordsAfter ≡ fileOut answer (fileRecords file) records
   pub pool-holds : poolAfter ≡ fileOut answer (filePool file) pool
+
+-- `vtt_write::write`, which is lent a file to write
+pub record WriteCall (configuration records pool file after : List ℕ) (answer : FileWritten) : Type 0 where
+  pub answers : answer ≡ writtenOf configuration records pool (length file)
+  pub file-holds : after ≡ fileAfter answer (fileBytes configuration records pool) file

@@ -4,7 +4,7 @@ use mathlib.Core.Path.{_≡_}
 use mathlib.Core.Bool.{true}
 use mathlib.Core.List.{List, [], _∷_, _++_, map}
 use mathlib.Core.Option.{Option, none, some}
-use lib.ListN.{length}
+use lib.ListN.{length, take}
 use Rattle.fields.specs.BigEndian.{bytes}
 use Rattle.characters.specs.declared.Counted.{Counted}
 use Rattle.characters.specs.declared.Counted.the-variants.{Characters, Bad}
@@ -23,6 +23,9 @@ use Rattle.unpack.specs.Unpacking.{trackCues, unpackOf}
 use Rattle.vtt_read.specs.declared.FileRead.{FileRead}
 use Rattle.vtt_read.specs.declared.FileRead.the-variants.{Done as DoneFile, Refused as RefusedFile}
 use Rattle.vtt_read.specs.Reading.{fileRecords, filePool, readOf}
+use Rattle.vtt_write.specs.declared.FileWritten.{FileWritten}
+use Rattle.vtt_write.specs.declared.FileWritten.the-variants.{Done as DoneOut, BadConfiguration, BadList, NoRoom}
+use Rattle.vtt_write.specs.Writing.{fileBytes, writtenOf}
 use Rattle.input.specs.Line.{lineOf}
 use Rattle.report.specs.Report.{answerText}
 
@@ -48,7 +51,8 @@ rowsPool [] = []
 rowsPool (r ∷ rs) = r .payload ++ rowsPool rs
 
 -- What a case asks: what the packed samples hold; the bytes that packing writes; the times after unpacking those bytes; what the program prints after an input line; the
--- characters of a text; the records and pool read from a file. What packing, unpacking or reading refuses answers with number and place.
+-- characters of a text; the records and pool read from a file; the file written from `WEBVTT` or another configuration, records and pool. What packing, unpacking, reading or
+-- writing refuses answers with number and place.
 pub data Question : Type 0 where
   holds : ℕ → ℕ → List Row → Question
   written : ℕ → ℕ → List Row → Question
@@ -56,6 +60,7 @@ pub data Question : Type 0 where
   prints : List ℕ → List Row → Question
   characters : List ℕ → Question
   file : List ℕ → Question
+  out : List ℕ → List ℕ → List ℕ → Question
 
 abbrev pub idOf : Option ℕ → ℕ
 idOf none = 0
@@ -88,6 +93,13 @@ abbrev pub ifRead : FileRead → List (List ℕ) → List (List ℕ)
 ifRead (DoneFile n r p) a = a
 ifRead (RefusedFile w) a = (w .number ∷ w .place ∷ []) ∷ []
 
+-- writing's answer, with what it has written
+abbrev pub ifWritten : FileWritten → List ℕ → List (List ℕ)
+ifWritten (DoneOut n) s = s ∷ []
+ifWritten (BadConfiguration w) s = (w .number ∷ w .place ∷ []) ∷ []
+ifWritten (BadList w) s = (w .number ∷ w .place ∷ []) ∷ []
+ifWritten (NoRoom w) s = (w .number ∷ w .place ∷ []) ∷ []
+
 -- packing with room for 1,000 bytes in each output
 unfoldable pub askPacking : ℕ → ℕ → List ℕ → List ℕ → List (List ℕ) → List (List ℕ)
 askPacking scale T recs pool a = ifPacked (packedOf scale T recs pool 1000 1000) a
@@ -109,6 +121,7 @@ asked (back scale T rs) =
 asked (prints line rs) = answerText (lineOf line) true (rowsBytes 0 rs) (rowsPool rs) ∷ []
 asked (characters s) = ifCounted (charactersOf s)
 asked (file s) = ifRead (readOf s 1000 1000) (fileRecords s ∷ filePool s ∷ [])
+asked (out c recs pool) = ifWritten (writtenOf c recs pool 1000) (fileBytes c recs pool)
 
 -- a question and its answer
 pub record Case : Type 0 where
@@ -129,9 +142,20 @@ head = 0x57 ∷ 0x45 ∷ 0x42 ∷ 0x56 ∷ 0x54 ∷ 0x54 ∷ 0x0A ∷ 0x0A ∷ [
 unfoldable oneCue : List ℕ
 oneCue = 0x61 ∷ 0x0A ∷ 0x30 ∷ 0x30 ∷ 0x3A ∷ 0x30 ∷ 0x31 ∷ 0x2E ∷ 0x30 ∷ 0x30 ∷ 0x30 ∷ 0x20 ∷ 0x2D ∷ 0x2D ∷ 0x3E ∷ 0x20 ∷ 0x30 ∷ 0x30 ∷ 0x3A ∷ 0x30 ∷ 0x32 ∷ 0x2E ∷ 0x35 ∷ 0x30 ∷ 0x30 ∷ 0x20 ∷ 0x6C ∷ 0x69 ∷ 0x6E ∷ 0x65 ∷ 0x3A ∷ 0x30 ∷ 0x0A ∷ 0x48 ∷ 0x69 ∷ []
 
--- document 01, 'Cases'; document 02, K1: a file with one cue, a malformed timing line, and a `STYLE` block
+-- its record and its pool
+unfoldable oneRecord : List ℕ
+oneRecord = 0x00 ∷ 0x00 ∷ 0x00 ∷ 0x00 ∷ 0x00 ∷ 0x00 ∷ 0x03 ∷ 0xE8 ∷ 0x00 ∷ 0x00 ∷ 0x09 ∷ 0xC4 ∷ 0x00 ∷ 0x00 ∷ 0x00 ∷ 0x00 ∷ 0x00 ∷ 0x01 ∷ 0x00 ∷ 0x06 ∷ 0x00 ∷ 0x02 ∷ 0x00 ∷ 0x00 ∷ []
+
+unfoldable onePool : List ℕ
+onePool = 0x61 ∷ 0x6C ∷ 0x69 ∷ 0x6E ∷ 0x65 ∷ 0x3A ∷ 0x30 ∷ 0x48 ∷ 0x69 ∷ []
+
+-- as it is written: `a`, `00:00:01.000 --> 00:00:02.500 line:0`, `Hi`, each with its LF
+unfoldable cueOut : List ℕ
+cueOut = 0x61 ∷ 0x0A ∷ 0x30 ∷ 0x30 ∷ 0x3A ∷ 0x30 ∷ 0x30 ∷ 0x3A ∷ 0x30 ∷ 0x31 ∷ 0x2E ∷ 0x30 ∷ 0x30 ∷ 0x30 ∷ 0x20 ∷ 0x2D ∷ 0x2D ∷ 0x3E ∷ 0x20 ∷ 0x30 ∷ 0x30 ∷ 0x3A ∷ 0x30 ∷ 0x30 ∷ 0x3A ∷ 0x30 ∷ 0x32 ∷ 0x2E ∷ 0x35 ∷ 0x30 ∷ 0x30 ∷ 0x20 ∷ 0x6C ∷ 0x69 ∷ 0x6E ∷ 0x65 ∷ 0x3A ∷ 0x30 ∷ 0x0A ∷ 0x48 ∷ 0x69 ∷ 0x0A ∷ []
+
+-- document 01, 'Cases'; document 02, K1: a file with one cue, a malformed timing line, and a `STYLE` block; K5: the file of that cue, of none, and a configuration that is none
 unfoldable pub cases : List Case
-unfolding abutting hi head oneCue
+unfolding abutting hi head oneCue oneRecord onePool cueOut
 cases =
     record {
       question = holds 1000 20000 (record { id = 1; start = 11000; end = 12500; payload = [] } ∷ record { id = 2; start = 13000; end = 18000; payload = [] } ∷ record { id = 3; start = 17000; end = 20000; payload = [] } ∷ []);
@@ -154,11 +178,13 @@ cases =
     ∷ record { question = characters (0xFE ∷ 0xFF ∷ []); answer = (0 ∷ []) ∷ [] }
     ∷ record {
       question = file (head ++ oneCue);
-      answer = (0x00 ∷ 0x00 ∷ 0x00 ∷ 0x00 ∷ 0x00 ∷ 0x00 ∷ 0x03 ∷ 0xE8 ∷ 0x00 ∷ 0x00 ∷ 0x09 ∷ 0xC4 ∷ 0x00 ∷ 0x00 ∷ 0x00 ∷ 0x00 ∷ 0x00 ∷ 0x01 ∷ 0x00 ∷ 0x06 ∷ 0x00 ∷ 0x02 ∷ 0x00 ∷ 0x00 ∷ [])
-          ∷ (0x61 ∷ 0x6C ∷ 0x69 ∷ 0x6E ∷ 0x65 ∷ 0x3A ∷ 0x30 ∷ 0x48 ∷ 0x69 ∷ []) ∷ [];
+      answer = oneRecord ∷ onePool ∷ [];
     }
     ∷ record { question = file (head ++ 0x61 ∷ 0x0A ∷ 0x2D ∷ 0x2D ∷ 0x3E ∷ []); answer = (19 ∷ 4 ∷ []) ∷ [] }
     ∷ record { question = file (head ++ 0x53 ∷ 0x54 ∷ 0x59 ∷ 0x4C ∷ 0x45 ∷ []); answer = (18 ∷ 3 ∷ []) ∷ [] }
+    ∷ record { question = out (take 6 head) oneRecord onePool; answer = (head ++ cueOut) ∷ [] }
+    ∷ record { question = out (take 6 head) [] []; answer = head ∷ [] }
+    ∷ record { question = out (take 5 head) [] []; answer = (6 ∷ 0 ∷ []) ∷ [] }
     ∷ []
 
 -- each question has its answer

@@ -4,6 +4,7 @@ pub mod Packing
 pub mod Checking
 pub mod Unpacking
 pub mod Files
+pub mod FilesOut
 pub mod Offsets
 pub mod Refusals
 pub mod Cases

@@ -65,6 +65,10 @@ InWritten c l p q =
     ((p ≡ 0) × FirstBad (Passes configurationText) c q)
     ⊎ ((p ≡ 1) × Passes configurationText c × (t : List ℕ) × (l ≡ some t) × FirstBad (Passes labelText) t q)
 
+-- of a configuration by itself
+abbrev pub InConfiguration : List ℕ → ℕ → ℕ → Type 0
+InConfiguration c p q = (p ≡ 0) × FirstBad (Passes configurationText) c q
+
 -- q is the first bad byte of the first bad one of a cue's texts
 abbrev pub InTexts : List ℕ → List ℕ → List ℕ → ℕ → Type 0
 InTexts identifier settings payload q =

@@ -32,6 +32,9 @@ use Rattle.unpack.specs.Unpacking.{unpackOf}
 use Rattle.vtt_read.specs.declared.FileRead.{FileRead}
 use Rattle.vtt_read.specs.declared.FileRead.the-variants.{Done as Reads, Refused as NotRead}
 use Rattle.vtt_read.specs.Reading.{readOf}
+use Rattle.vtt_write.specs.declared.FileWritten.{FileWritten}
+use Rattle.vtt_write.specs.declared.FileWritten.the-variants.{Done as FileDone, BadConfiguration, BadList as BadCues, NoRoom}
+use Rattle.vtt_write.specs.Writing.{writtenOf as fileWritten}
 use Rattle.tx3g_entry.specs.Entry.{judgeEntry as judgeTx3gEntry}
 use Rattle.tx3g_sample.specs.Sample.{countedAt, readSample, verdictOf}
 use Rattle.tx3g_modifiers.specs.declared.Held.{Held as Modifier}
@@ -41,7 +44,7 @@ use Rattle.tx3g_style.specs.Style.{styleOf, faultOf}
 use Rattle.tx3g_box.specs.declared.Spot.{Spot}
 use Rattle.tx3g_box.specs.declared.Spot.the-variants.{Sample as SampleBox, Entry as EntryBox, BadEntry as BoxEntry, BadSample as BoxSample}
 use Rattle.tx3g_box.specs.TextBox.{spotOf}
-use Rattle.demands.specs.Offsets.{InSample, InEntry, InWritten, InRecord, InFile, InTrack, InText, InTx3g, Never}
+use Rattle.demands.specs.Offsets.{InSample, InEntry, InWritten, InConfiguration, InRecord, InFile, InTrack, InText, InTx3g, Never}
 
 -- the numbers of refusals: 1 to 19
 abbrev pub InTable : ℕ → Type 0
@@ -69,6 +72,13 @@ abbrev pub CheckListed : List ℕ → List ℕ → List ℕ → List ℕ → Che
 CheckListed records pool table samples Passed = Unit {0}
 CheckListed records pool table samples (BadList r) = Listed (InRecord records pool) (Refused r)
 CheckListed records pool table samples (BadTrack r) = Listed (InTrack table samples) (Refused r)
+
+-- of writing a file: the configuration, the list's texts, or no text, by who is at fault
+abbrev pub WriteListed : List ℕ → List ℕ → List ℕ → FileWritten → Type 0
+WriteListed configuration records pool (FileDone n) = Unit {0}
+WriteListed configuration records pool (BadConfiguration r) = Listed (InConfiguration configuration) (Refused r)
+WriteListed configuration records pool (BadCues r) = Listed (InRecord records pool) (Refused r)
+WriteListed configuration records pool (NoRoom r) = Listed Never (Refused r)
 
 abbrev pub writing : Written → Verdict
 writing (WrittenDone n) = Fine
@@ -104,6 +114,7 @@ pub record RefusalsAre : Type 0 where
   pub pack : (scale T : ℕ) (records pool : List ℕ) (tableRoom samplesRoom : ℕ) → Listed (InRecord records pool) (packing (packedOf scale T records pool tableRoom samplesRoom))
   pub unpack : (scale : ℕ) (table samples : List ℕ) (recordsRoom poolRoom : ℕ) → Listed (InTrack table samples) (unpacking (unpackOf scale table samples recordsRoom poolRoom))
   pub file : (file : List ℕ) (recordsRoom poolRoom : ℕ) → Listed (InFile file) (reading (readOf file recordsRoom poolRoom))
+  pub write-file : (configuration records pool : List ℕ) (room : ℕ) → WriteListed configuration records pool (fileWritten configuration records pool room)
   pub tx3g-entry : (e : List ℕ) → Listed Never (judgeTx3gEntry e)
   pub tx3g-sample : (e s : List ℕ) → Listed (InTx3g s) (verdictOf (readSample e s))
   pub modifier : (s : List ℕ) (from : ℕ) → Listed Never (ofModifier (nextModifier s (boxesIn s from (length s))))

@@ -1,11 +1,12 @@
-// The four operations, each with the contract that the demands start from (specs/Calls.antt). The demands are theorems about every such call (specs/), with their
+// The operations, each with the contract that the demands start from (specs/Calls.antt). The demands are theorems about every such call (specs/), with their
 // proofs (proofs/).
 use conform::Checked;
 use conform::check_track;
 use pack::Packed;
 use unpack::Unpacked;
 use vtt_read::FileRead;
-ghost use Rattle.demands.specs.Calls.{PackCall, CheckCall, UnpackCall, ReadCall};
+use vtt_write::FileWritten;
+ghost use Rattle.demands.specs.Calls.{PackCall, CheckCall, UnpackCall, ReadCall, WriteCall};
 
 // Packing.
 pub fn pack_list(
@@ -53,4 +54,11 @@ pub fn read_file(file: &[u8], records: &mut [u8], pool: &mut [u8]) -> FileRead
     ensures { λ r. ⌜ ReadCall (now (file .entry)) (now (records .entry)) (now (pool .entry)) (now (records .exit)) (now (pool .exit)) r ⌝ }
 {
     vtt_read::read(file, &mut *records, &mut *pool)
+}
+
+// Writing a file.
+pub fn write_file(configuration: &[u8], records: &[u8], pool: &[u8], file: &mut [u8]) -> FileWritten
+    ensures { λ r. ⌜ WriteCall (now (configuration .entry)) (now (records .entry)) (now (pool .entry)) (now (file .entry)) (now (file .exit)) r ⌝ }
+{
+    vtt_write::write(configuration, records, pool, &mut *file)
 }

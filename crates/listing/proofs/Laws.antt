@@ -6,7 +6,7 @@ use native.Mathlib.Omega.{arith}
 use native.Mathlib.Numerals.{add-one}
 use lib.ListN.{length, set, length-append}
 use Rattle.base.specs.Over.{over, wrote}
-use Rattle.base.proofs.Over.{wrote-more, over-wrote, sets-wrote, length-wrote}
+use Rattle.base.proofs.Over.{in-two, then-byte, over-wrote}
 use Rattle.decimal.specs.Decimal.{decimal}
 use Rattle.listing.specs.Listing.{numberText, pairText, rowText, rowsText, word, refusalText}
 
@@ -19,14 +19,9 @@ unfolding pairText
 length-pair n m = length-append (numberText n 32) (numberText m 10)
 
 -- two writes, one behind the other
-in-two : (d d₁ d₂ a b : List ℕ) (at p : ℕ) → d₁ ≡ wrote d at a → d₂ ≡ wrote d₁ p b → p ≡ at + length a → p ≤ length d → d₂ ≡ wrote d at (a ++ b)
-in-two d d₁ d₂ a b at p e f q h = f ∙ ap (λ (x : List ℕ). wrote x p b) e ∙ wrote-more d at p a b (omega arith) q
-
 pub ended : (d d₁ : List ℕ) (at p n e : ℕ) → d₁ ≡ wrote d at (decimal n) → p ≡ at + length (decimal n) → p < length d → set d₁ p e ≡ wrote d at (numberText n e)
 unfolding numberText
-ended d d₁ at p n e f q h =
-    let l : length d₁ ≡ length d = ap length f ∙ length-wrote d at (decimal n) (omega arith) in
-    in-two d d₁ (set d₁ p e) (decimal n) (e ∷ []) at p f (sets-wrote d₁ p (e ∷ []) (omega arith)) q (omega arith)
+ended d d₁ at p n e f q h = then-byte d d₁ (decimal n) at p e f q h
 
 pub paired : (d d₁ d₂ : List ℕ) (at p n m : ℕ) → d₁ ≡ wrote d at (numberText n 32) → d₂ ≡ wrote d₁ p (numberText m 10) → p ≡ at + length (numberText n 32) → p ≤ length d
     → d₂ ≡ wrote d at (pairText n m)

@@ -7,12 +7,11 @@ use native.Mathlib.Numerals.{add-one}
 use lib.ListN.{length, getD, length-append}
 use lib.Seq.{take-length}
 use Rattle.base.specs.Over.{over, wrote}
-use Rattle.base.proofs.Over.{over-wrote, wrote-more, length-wrote}
+use Rattle.base.proofs.Over.{over-wrote, length-wrote, in-two, in-three}
 use Rattle.fields.proofs.BigEndian.{length-bytes}
 use Rattle.boxes.specs.Boxes.{part}
 use Rattle.timeline.specs.Cues.{Cue}
 use Rattle.timeline.specs.Unpacking.{noCue}
-use Rattle.wvtt_write.proofs.Laws.{in-three}
 use Rattle.records_write.specs.Records.{recordBytes, recordOf, textsOf, poolTo, recordsTo}
 
 -- ---- sizes
@@ -37,16 +36,11 @@ pub whole : (s : List ℕ) → part s 0 (0 + length s) ≡ s
 unfolding part
 whole s = let e : 0 + length s - 0 ≡ length s = omega arith in rw e (take-length s)
 
-pub in-two : (d d₁ d₂ a b : List ℕ) (at p : ℕ) → d₁ ≡ wrote d at a → d₂ ≡ wrote d₁ p b → p ≡ at + length a → at + length a ≤ length d → d₂ ≡ wrote d at (a ++ b)
-in-two d d₁ d₂ a b at p e₁ e₂ hp h = e₂ ∙ ap (λ (x : List ℕ). wrote x p b) e₁ ∙ wrote-more d at p a b h hp
-
 pub in-four : (d d₁ d₂ d₃ d₄ a b e f : List ℕ) (at p q r : ℕ) → d₁ ≡ wrote d at a → d₂ ≡ wrote d₁ p b → d₃ ≡ wrote d₂ q e → d₄ ≡ wrote d₃ r f
     → p ≡ at + length a → q ≡ p + length b → r ≡ q + length e → at + length a + length b + length e ≤ length d → d₄ ≡ wrote d at (a ++ (b ++ (e ++ f)))
 in-four d d₁ d₂ d₃ d₄ a b e f at p q r e₁ e₂ e₃ e₄ hp hq hr h =
     let l : length d₁ ≡ length d = ap length e₁ ∙ length-wrote d at a (omega arith) in
-    in-three d₁ d₂ d₃ d₄ b e f p q r e₂ e₃ e₄ hq hr (omega arith)
-    ∙ ap (λ (x : List ℕ). wrote x p (b ++ (e ++ f))) e₁
-    ∙ wrote-more d at p a (b ++ (e ++ f)) (omega arith) hp
+    in-two d d₁ d₄ a (b ++ (e ++ f)) at p e₁ (in-three d₁ d₂ d₃ d₄ b e f p q r e₂ e₃ e₄ hq hr (omega arith)) hp (omega arith)
 
 -- ---- one cue more, in each output
 

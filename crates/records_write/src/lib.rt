@@ -32,8 +32,8 @@ fn put_back(d: &mut [u8], at: usize, identifier: u32, settings: u32, payload: u3
     put16(&mut *d, at + 6, 0);
 }
 
-// A text, to `at` in the pool; gives the place behind it.
-fn put_text(pool: &mut [u8], at: usize, text: &[u8]) -> usize
+// A text, to `at` in the pool or in other lent bytes; gives the place behind it.
+pub fn put_text(pool: &mut [u8], at: usize, text: &[u8]) -> usize
     requires { ⌜ at + length (now text) ≤ length (now pool) ⌝ }
     ensures { λ r. ⌜ (r ≡ at + length (now (text .entry))) × (now (pool .exit) ≡ wrote (now (pool .entry)) at (now (text .entry))) ⌝ }
 {

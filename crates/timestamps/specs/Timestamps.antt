@@ -1,8 +1,9 @@
--- WebVTT timestamps: `mm:ss.mmm`, or two or more digits of hours and `:mm:ss.mmm`. Document 02, K1.
-use Prim.Native.Nat.{ℕ, _+_, _*_, min}
+-- WebVTT timestamps: `mm:ss.mmm`, or two or more digits of hours and `:mm:ss.mmm`. Document 02, K1 and K5.
+use Prim.Native.Nat.{ℕ, _+_, _*_, _/_, _%_, _≤_, min}
+use mathlib.Core.Path.{_≡_}
 use mathlib.Core.Bool.{Bool, true, false}
 use mathlib.Core.Option.{Option, none, some}
-use mathlib.Core.List.{List, [], _∷_}
+use mathlib.Core.List.{List, [], _∷_, _++_}
 use lib.Dec.{leb}
 use lib.ListN.{length, take, drop}
 use Rattle.base.specs.Choice.{pick, both, within}
@@ -63,3 +64,22 @@ capped t = min t 360000000
 abbrev pub answered : Option ℕ → Timestamp
 answered none = Malformed
 answered (some t) = Ms (capped t)
+
+-- ---- as a time is written
+
+-- n as two digits, as three
+unfoldable pub two : ℕ → List ℕ
+two n = (0x30 + n / 10) ∷ (0x30 + n % 10) ∷ []
+
+unfoldable pub three : ℕ → List ℕ
+unfolding two
+three n = (0x30 + n / 100) ∷ two (n % 100)
+
+-- `hh:mm:ss.mmm`
+unfoldable pub timeText : ℕ → List ℕ
+unfolding two three
+timeText t = two (t / 3600000) ++ COLON ∷ two (t / 60000 % 60) ++ COLON ∷ two (t / 1000 % 60) ++ DOT ∷ three (t % 1000)
+
+-- a time that is written is read again
+abbrev pub TimesComeBack : Type 0
+TimesComeBack = (t : ℕ) → t ≤ 359999999 → timeOf (timeText t) ≡ some t

@@ -2,11 +2,13 @@
 use ascii::is_within;
 ghost use mathlib.Core.Path.{_≡_};
 ghost use mathlib.Core.Bool.{true};
+ghost use mathlib.Core.List.{[], _∷_, _++_};
 ghost use Prim.Native.Nat.{_+_, _-_, _≤_, min};
 ghost use lib.ListN.{length, take, drop, getD};
 ghost use Rattle.base.specs.Choice.{both, within};
+ghost use Rattle.base.specs.Over.{wrote};
 ghost use Rattle.decimal.specs.Decimal.{value};
-ghost use Rattle.timestamps.specs.Timestamps.{front, behind, digit, shaped, minutes, minutesMs, hoursMs, timeOf, capped, answered};
+ghost use Rattle.timestamps.specs.Timestamps.{front, behind, digit, shaped, minutes, minutesMs, hoursMs, timeOf, capped, answered, two, three, timeText};
 
 // The milliseconds of a timestamp, at most 360,000,000; or it is none.
 pub enum Timestamp {
@@ -161,4 +163,35 @@ pub fn read_timestamp(s: &[u8]) -> Timestamp
         return Timestamp::Malformed;
     }
     Timestamp::Ms(minutes_ms(s, 0))
+}
+
+// Two digits, and a mark behind them.
+fn put_pair(out: &mut [u8], at: usize, n: u32, mark: u8)
+    requires { ⌜ (at + 3 ≤ length (now out)) × (n ≤ 99) ⌝ }
+    ensures { λ _. ⌜ now (out .exit) ≡ wrote (now (out .entry)) at (two n ++ mark ∷ []) ⌝ }
+{
+    out[at] = (48 + n / 10) as u8;
+    out[at + 1] = (48 + n % 10) as u8;
+    out[at + 2] = mark;
+}
+
+// Three digits.
+fn put_thousand(out: &mut [u8], at: usize, n: u32)
+    requires { ⌜ (at + 3 ≤ length (now out)) × (n ≤ 999) ⌝ }
+    ensures { λ _. ⌜ now (out .exit) ≡ wrote (now (out .entry)) at (three n) ⌝ }
+{
+    out[at] = (48 + n / 100) as u8;
+    out[at + 1] = (48 + n % 100 / 10) as u8;
+    out[at + 2] = (48 + n % 100 % 10) as u8;
+}
+
+// A time as `hh:mm:ss.mmm`.
+pub fn put_timestamp(out: &mut [u8], at: usize, t: u32)
+    requires { ⌜ (at + 12 ≤ length (now out)) × (t ≤ 359999999) ⌝ }
+    ensures { λ _. ⌜ now (out .exit) ≡ wrote (now (out .entry)) at (timeText t) ⌝ }
+{
+    put_pair(&mut *out, at, t / 3600000, b':');
+    put_pair(&mut *out, at + 3, t / 60000 % 60, b':');
+    put_pair(&mut *out, at + 6, t / 1000 % 60, b'.');
+    put_thousand(&mut *out, at + 9, t % 1000);
 }

@@ -18,7 +18,7 @@ use Rattle.vtt_lines.specs.Lines.{Line}
 use Rattle.timestamps.specs.Timestamps.{front, behind, COLON, digit, shaped, minutes, hoursMs, timeOf}
 use Rattle.vtt_timing.specs.Timing.{blank, unblank, begins, trimmed, Timing, timing, afterWord, timingOf}
 use Rattle.vtt_timing.specs.Grammar.{Blanks, ended, TimingLine, TimingMeans}
-use Rattle.vtt_timing.proofs.Runs.{All, all-append, front-stop, front-all, behind-stop, behind-all}
+use Rattle.timestamps.proofs.Runs.{All, all-append, front-stop, front-all, behind-stop, behind-all}
 
 -- ---- runs
 

@@ -1,4 +1,3 @@
-pub mod Runs
 pub mod Grammar
 pub mod Laws
 pub mod Usual

@@ -3,12 +3,11 @@ use Prim.Native.Nat.{ℕ, zero, suc, _+_, _-_, _≤_, _<_}
 use mathlib.Core.Path.{_≡_, refl, sym, ap, _∙_}
 use mathlib.Core.List.{List, [], _∷_, _++_, append-assoc, append-nil}
 use native.Mathlib.Omega.{arith}
-use native.Mathlib.Nat.{add-assoc}
 use native.Mathlib.Numerals.{add-one}
-use lib.ListN.{length, take, drop, getD, set, length-append, length-drop}
+use lib.ListN.{length, drop, getD, set, length-append, length-drop}
 use lib.Seq.{paste, paste-suc, getD-drop, length-take-le}
 use Rattle.base.specs.Over.{wrote}
-use Rattle.base.proofs.Over.{wrote-more, wrote-nil, paste-wrote, length-wrote}
+use Rattle.base.proofs.Over.{wrote-more, paste-wrote}
 use Rattle.fields.specs.BigEndian.{bytes}
 use Rattle.fields.proofs.BigEndian.{length-bytes}
 use Rattle.boxes.specs.Boxes.{part}
@@ -104,14 +103,6 @@ cue-is y n e = rw e (made (itemBytes (textItems y)))
 pub length-cue : (y : Body) (n : ℕ) → y .id ≡ some n → length (cueBytes y) ≡ cueSize (length (y .identifier)) (length (y .settings)) (length (y .payload))
 unfolding cueSize
 length-cue y n e = rw (cue-is y n e, length-append, length-append, length-append, length-bytes, length-bytes, length-box, length-bytes, length-texts) (omega arith)
-
--- three writes, each behind the one before
-pub in-three : (d d₁ d₂ d₃ a b e : List ℕ) (at p q : ℕ) → d₁ ≡ wrote d at a → d₂ ≡ wrote d₁ p b → d₃ ≡ wrote d₂ q e
-    → p ≡ at + length a → q ≡ p + length b → at + length a + length b ≤ length d → d₃ ≡ wrote d at (a ++ (b ++ e))
-in-three d d₁ d₂ d₃ a b e at p q e₁ e₂ e₃ hp hq h =
-    let l : length d₁ ≡ length d = ap length e₁ ∙ length-wrote d at a (omega arith) in
-    e₃ ∙ ap (λ (x : List ℕ). wrote x q e) e₂ ∙ wrote-more d₁ p q b e (omega arith) hq ∙ ap (λ (x : List ℕ). wrote x p (b ++ e)) e₁
-    ∙ wrote-more d at p a (b ++ e) (omega arith) hp
 
 -- the texts of a cue in a pool have the lengths that are given
 pub pooled-lengths : (n : ℕ) (pool : List ℕ) (from i g t : ℕ) → from + i + g + t ≤ length pool → let y = pooled n pool from i g t in

@@ -3,12 +3,14 @@
 mod classes;
 mod entries;
 mod files;
+mod files_out;
 mod inputs;
 mod lists;
 mod reader;
 mod texts;
 mod timing;
 mod tx3g;
+mod writer;
 
 use std::hint::black_box;
 
@@ -34,6 +36,7 @@ fn main() {
     }
     entries::bench();
     files::bench();
+    files_out::bench();
     for count in SIZES {
         tx3g::bench(&tx3g::samples(count), &format!("{count} styles"));
     }

@@ -96,6 +96,14 @@ pub struct CaptionsVttRead {
 
 #[repr(C)]
 #[derive(Clone, Copy, Debug, PartialEq, Eq)]
+pub struct CaptionsVttWritten {
+    pub refusal: CaptionsRefusal,
+    pub who: u32,
+    pub bytes: usize,
+}
+
+#[repr(C)]
+#[derive(Clone, Copy, Debug, PartialEq, Eq)]
 pub struct CaptionsTx3gEntry {
     pub refusal: CaptionsRefusal,
     pub data_reference_index: u32,
@@ -318,6 +326,24 @@ extern "C" {
         pool: *mut u8,
         pool_len: usize,
     ) -> CaptionsVttRead;
+    pub fn captions_vtt_write_room(
+        configuration: *const u8,
+        configuration_len: usize,
+        records: *const u8,
+        records_len: usize,
+        pool: *const u8,
+        pool_len: usize,
+    ) -> CaptionsVttWritten;
+    pub fn captions_vtt_write(
+        configuration: *const u8,
+        configuration_len: usize,
+        records: *const u8,
+        records_len: usize,
+        pool: *const u8,
+        pool_len: usize,
+        file: *mut u8,
+        file_len: usize,
+    ) -> CaptionsVttWritten;
     pub fn captions_tx3g_read_entry(entry: *const u8, entry_len: usize) -> CaptionsTx3gEntry;
     pub fn captions_tx3g_font_at(entry: *const u8, entry_len: usize, at: usize) -> CaptionsFont;
     pub fn captions_tx3g_count_characters(text: *const u8, text_len: usize) -> CaptionsCount;

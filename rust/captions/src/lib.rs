@@ -42,15 +42,30 @@
 //! # Ok::<(), captions::Refusal>(())
 //! ```
 //!
+//! # Write a WebVTT file
+//!
+//! ```
+//! use captions::{vtt, CueList, ListedCue};
+//!
+//! # fn main() -> Result<(), Box<dyn std::error::Error>> {
+//! let mut list = CueList::new();
+//! list.push_auto(ListedCue { end_ms: 1500, payload: "Good morning.", ..Default::default() })?;
+//! let file = vtt::write("WEBVTT", &list)?;
+//! assert_eq!(file, b"WEBVTT\n\n00:00:00.000 --> 00:00:01.500\nGood morning.\n");
+//! # Ok(())
+//! # }
+//! ```
+//!
 //! # What is where
 //!
 //! The modules [`wvtt`], [`vtt`] and [`tx3g`] have the names of the C functions `captions_wvtt_…`,
 //! `captions_vtt_…` and `captions_tx3g_…` of `include/captions.h`; what has no such prefix stands
-//! here. Functions take lent bytes and allocate nothing, but for [`vtt::read`] and those that end
-//! in `to_vec` or `to_vecs`. A refusal gives a [`Reason`], a place and, of a bad text, the offset
-//! at which it is bad, and writes nothing; on success bytes past the result keep their content.
-//! The place is a byte, an index or, of a file, a line. Where an operation reads two things, a
-//! [`Fault`] also says which is at fault.
+//! here. Functions take lent bytes and allocate nothing, but for [`vtt::read`], [`vtt::write()`]
+//! and those that end in `to_vec` or `to_vecs`. A refusal gives a [`Reason`], a place and, of a bad
+//! text, the offset at which it is bad, and writes nothing; on success bytes past the result keep
+//! their content. The place is a byte, an index or, of a file that is read, a line. A [`Fault`]
+//! also says which of several things is at fault: of entry and sample, of list and track, or of
+//! configuration, list and output.
 //!
 //! Over these stand types that are judged once and then read: [`CueList`] and [`CueListRef`],
 //! [`wvtt::Track`], [`wvtt::Sample`], [`wvtt::Entry`], [`tx3g::Entry`] and [`tx3g::Sample`].
@@ -64,6 +79,7 @@
 //! | `captions_wvtt_unpack_room`, `_unpack` | [`wvtt::Track::unpack`], [`wvtt::unpack_to_vecs`], [`wvtt::unpack_room`], [`wvtt::unpack`] |
 //! | `captions_wvtt_check` | [`wvtt::Track::check`], [`wvtt::check`] |
 //! | `captions_vtt_read_room`, `_read` | [`vtt::read`], [`vtt::read_room`], [`vtt::read_into`] |
+//! | `captions_vtt_write_room`, `_write` | [`vtt::write()`], [`vtt::write_room`], [`vtt::write_into`] |
 //! | `captions_tx3g_read_entry`, `_font_at` | [`tx3g::Entry::read`], [`tx3g::Entry::fonts`], [`tx3g::font_at`] |
 //! | `captions_tx3g_read_sample` | [`tx3g::Sample::read`] |
 //! | `captions_tx3g_next_run` | [`tx3g::Sample::runs`], [`tx3g::next_run`] |

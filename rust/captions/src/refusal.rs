@@ -166,7 +166,7 @@ impl Display for Refusal {
 
 impl Error for Refusal {}
 
-/// Who is at fault, where an operation reads two things, or where something stands.
+/// Who is at fault, where an operation is lent more than one thing, or where something stands.
 #[non_exhaustive]
 #[derive(Clone, Copy, Debug, PartialEq, Eq, PartialOrd, Ord, Hash)]
 pub enum Who {
@@ -178,16 +178,22 @@ pub enum Who {
     List,
     /// A track.
     Track,
+    /// The configuration that is written.
+    Configuration,
+    /// What is lent for the result.
+    Output,
 }
 
 impl Who {
-    /// Of the numbers that the library gives, 1 to 4.
+    /// Of the numbers that the library gives, 1 to 6.
     #[inline]
     fn of(number: u32) -> Self {
         match number {
             1 => Who::Entry,
             3 => Who::List,
             4 => Who::Track,
+            5 => Who::Configuration,
+            6 => Who::Output,
             _ => Who::Sample,
         }
     }
@@ -200,11 +206,13 @@ impl Display for Who {
             Who::Sample => "sample",
             Who::List => "list",
             Who::Track => "track",
+            Who::Configuration => "configuration",
+            Who::Output => "output",
         })
     }
 }
 
-/// A refusal where an operation reads two things, and which of them is at fault.
+/// A refusal where an operation is lent more than one thing, and which of them is at fault.
 ///
 /// ```
 /// use captions::{wvtt, Fault, Refusal};
@@ -313,5 +321,8 @@ mod tests {
         assert_eq!(shown(2, 6, 0, 12), "sample refused 6 0, byte 12: bad text");
         assert_eq!(shown(3, 12, 5, 0), "list refused 12 5: an ID twice");
         assert_eq!(shown(4, 16, 3, 0), "track refused 16 3: the track differs");
+        let configuration = "configuration refused 6 0, byte 3: bad text";
+        assert_eq!(shown(5, 6, 0, 3), configuration);
+        assert_eq!(shown(6, 15, 0, 0), "output refused 15 0: output too short");
     }
 }

@@ -20,6 +20,8 @@ fn who(who: captions::Who) -> Who {
         captions::Who::Sample => Who::Sample,
         captions::Who::List => Who::List,
         captions::Who::Track => Who::Track,
+        captions::Who::Configuration => Who::Configuration,
+        captions::Who::Output => Who::Output,
         other => panic!("{other} is new"),
     }
 }

@@ -6,7 +6,8 @@ mod raw;
 
 use std::hint::black_box;
 
-use captions::{tx3g, vtt, wvtt};
+use captions::limits::LARGEST_MS;
+use captions::{tx3g, vtt, wvtt, CueList};
 use captions_harness::{BoxAt, Cue, Entry, Fault, Fields, Font, Library, Modifier, Next};
 use captions_harness::{
     Offered, Packed, Refusal, Run, RunAt, RunInput, Span, TextBoxAt, Tx3gSample, Unpacked, VttRead,
@@ -265,6 +266,39 @@ impl Library for Proved {
         Some(answer.map(vtt_read).map_err(refusal))
     }
 
+    /// As the static library measures it; the file that the safe function writes must agree.
+    fn write_vtt_room(
+        &self,
+        configuration: &[u8],
+        records: &[u8],
+        pool: &[u8],
+    ) -> Offered<Result<usize, Fault>> {
+        Some(lend(
+            [configuration, records, pool],
+            |[configuration, records, pool]| {
+                let room = vtt::write_room(configuration, records, pool);
+                if let Some(file) = safe_file(configuration, records, pool) {
+                    assert_eq!(file.map(|file| file.len()), room);
+                }
+                room.map_err(fault)
+            },
+        ))
+    }
+
+    fn write_vtt(
+        &self,
+        configuration: &[u8],
+        records: &[u8],
+        pool: &[u8],
+        file: &mut [u8],
+    ) -> Offered<Result<usize, Fault>> {
+        let answer = lend(
+            [configuration, records, pool],
+            |[configuration, records, pool]| vtt::write_into(configuration, records, pool, file),
+        );
+        Some(answer.map_err(fault))
+    }
+
     fn read_tx3g_entry(&self, entry: &[u8]) -> Offered<Result<Fields, Refusal>> {
         let read = lend([entry], |[entry]| {
             tx3g::Entry::read(entry).map(|entry| convert::fields(&entry))
@@ -360,6 +394,18 @@ impl Library for Proved {
             Ok(convert::text_box(entry, sample, found))
         }))
     }
+}
+
+/// What the safe function writes, if the configuration is a string and the list is good.
+fn safe_file(
+    configuration: &[u8],
+    records: &[u8],
+    pool: &[u8],
+) -> Option<Result<Vec<u8>, captions::Fault>> {
+    let configuration = std::str::from_utf8(configuration).ok()?;
+    let (records, pool) = (records.to_vec(), pool.to_vec());
+    let list = CueList::from_parts(1000, LARGEST_MS, records, pool).ok()?;
+    Some(vtt::write(configuration, &list))
 }
 
 fn packed(packed: wvtt::Packed) -> Packed {

@@ -59,6 +59,7 @@ answers! {
     CaptionsTx3gEntry: refusal;
     CaptionsCount: refusal;
     CaptionsModifier: refusal;
+    CaptionsVttWritten: refusal, who;
     CaptionsChecked: refusal, who;
     CaptionsTx3gSample: refusal, who;
     CaptionsStyle: refusal, who;
@@ -165,6 +166,27 @@ fn no_file_is_answered() {
         let bare = b"WEBVTT".as_ptr();
         let read = captions_vtt_read(bare, 6, none, 0, none, 0);
         assert_eq!(read, CaptionsVttRead::zero());
+    }
+}
+
+#[test]
+fn no_configuration_and_no_list_are_answered() {
+    let none: *mut u8 = null_mut();
+    let bare = b"WEBVTT".as_ptr();
+    // SAFETY: no bytes, or a pointer and the length of a slice.
+    unsafe {
+        let room = both_ways(|p| captions_vtt_write_room(p, 0, p, 0, p, 0));
+        let written = both_ways(|p| captions_vtt_write(p, 0, p, 0, p, 0, none, 0));
+        is_refusal(room, 6, 0);
+        assert_eq!((room.who, written), (5, room));
+        let room = both_ways(|p| captions_vtt_write_room(bare, 6, p, 0, p, 0));
+        assert_eq!((room.refusal, room.who, room.bytes), (DONE, 0, 8));
+        let written = both_ways(|p| captions_vtt_write(bare, 6, p, 0, p, 0, none, 0));
+        is_refusal(written, 15, 0);
+        assert_eq!(written.who, 6);
+        let room = both_ways(|p| captions_vtt_write_room(bare, 6, bare, 6, p, 0));
+        is_refusal(room, 1, 0);
+        assert_eq!(room.who, 3);
     }
 }
 
@@ -288,6 +310,19 @@ fn free_in_files(random: &mut Random) {
         zero_beside_refusal(captions_vtt_read_room(at, len), true);
         let read = captions_vtt_read(at, len, out, out_len, null_mut(), 0);
         zero_beside_refusal(read, true);
+    }
+    let parts = make::vtt_parts(random);
+    let [text, list, pool] = parts.inputs();
+    let (at, len) = (text.as_ptr(), text.len());
+    let (list, list_len, pool, pool_len) = (list.as_ptr(), list.len(), pool.as_ptr(), pool.len());
+    // SAFETY: pointers and lengths of slices.
+    unsafe {
+        let room = captions_vtt_write_room(at, len, list, list_len, pool, pool_len);
+        let written = captions_vtt_write(at, len, list, list_len, pool, pool_len, out, out_len);
+        for answer in [room, written] {
+            zero_beside_refusal(answer, true);
+            assert_eq!(answer.refusal.number == 0, answer.who == 0);
+        }
     }
 }
 

@@ -134,7 +134,7 @@ pub fn differential_round(
 type Compared = Result<(), Difference>;
 type Operation = fn(&mut Pair, &mut Random) -> Compared;
 
-const OPERATIONS: [Operation; 18] = [
+const OPERATIONS: [Operation; 19] = [
     compare_fields,
     compare_times,
     compare_texts,
@@ -150,6 +150,7 @@ const OPERATIONS: [Operation; 18] = [
     wvtt::compare_check,
     wvtt::compare_program,
     vtt::compare_file,
+    vtt::compare_writing,
     tx3g::compare_entry,
     tx3g::compare_sample,
     tx3g::compare_run,
@@ -193,11 +194,11 @@ impl Pair<'_> {
     }
 
     /// As [`Pair::ask`], for operations with outputs.
-    fn write<T: PartialEq + Debug>(
+    fn write<T: PartialEq + Debug, E: PartialEq + Debug + Copy + Into<Refused>>(
         &mut self,
         operation: &'static str,
         input: impl Fn() -> String,
-        ask: impl Fn(&dyn Library) -> Option<Written<T>>,
+        ask: impl Fn(&dyn Library) -> Option<Written<T, E>>,
     ) -> Compared {
         match self.common(operation, &input, ask, |w| counted(&w.answer))? {
             Some(written) if !written.kept => {

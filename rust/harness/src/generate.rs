@@ -8,6 +8,7 @@ mod text;
 mod track;
 mod tx3g;
 mod vtt;
+mod vtt_parts;
 mod wvtt;
 
 pub use boxes::{box_of, step_input};
@@ -18,6 +19,7 @@ pub use text::{any_text, bad_text, identifier, payload, tx3g_text};
 pub use track::{check_input, packed, unpack_input, Track};
 pub use tx3g::{run_input, sample_for, tx3g_entry, tx3g_input};
 pub use vtt::{damage_file, vtt_file};
+pub use vtt_parts::{vtt_parts, VttParts};
 pub use wvtt::{configuration, entry_parts, wvtt_entry, wvtt_sample, EntryParts};
 
 use crate::random::Random;

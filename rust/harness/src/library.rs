@@ -237,6 +237,27 @@ pub trait Library {
         None
     }
 
+    /// What writing a WebVTT file answers given room for everything.
+    fn write_vtt_room(
+        &self,
+        configuration: &[u8],
+        records: &[u8],
+        pool: &[u8],
+    ) -> Offered<Result<usize, Fault>> {
+        None
+    }
+
+    /// Writes a configuration and a cue list as a WebVTT file, and gives its length.
+    fn write_vtt(
+        &self,
+        configuration: &[u8],
+        records: &[u8],
+        pool: &[u8],
+        file: &mut [u8],
+    ) -> Offered<Result<usize, Fault>> {
+        None
+    }
+
     /// Judges a `tx3g` sample entry and reads it.
     fn read_tx3g_entry(&self, entry: &[u8]) -> Offered<Result<Fields, Refusal>> {
         None

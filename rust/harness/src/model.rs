@@ -195,6 +195,25 @@ impl Library for Model {
         Some(vtt::read(file, records, pool))
     }
 
+    fn write_vtt_room(
+        &self,
+        configuration: &[u8],
+        records: &[u8],
+        pool: &[u8],
+    ) -> Offered<Result<usize, Fault>> {
+        Some(vtt::write_room(configuration, records, pool))
+    }
+
+    fn write_vtt(
+        &self,
+        configuration: &[u8],
+        records: &[u8],
+        pool: &[u8],
+        file: &mut [u8],
+    ) -> Offered<Result<usize, Fault>> {
+        Some(vtt::write(configuration, records, pool, file))
+    }
+
     fn read_tx3g_entry(&self, entry: &[u8]) -> Offered<Result<Fields, Refusal>> {
         Some(tx3g::read_entry(entry).map(|entry| entry.fields()))
     }

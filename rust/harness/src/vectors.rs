@@ -122,8 +122,8 @@ const OFFSETS: Form = Form {
     offsets: true,
     ..PLACES
 };
-/// Rows with the flag `notes` first: 1 where records, samples and tracks hold notes and reading a
-/// file keeps them. Such a row holds when they do, and is left for later.
+/// Rows with the flag `notes` first: 1 where records, samples and tracks hold notes, and reading
+/// and writing a file keep them. Such a row holds when they do, and is left for later.
 const NOTES: Form = Form {
     flags: 1,
     ..OFFSETS
@@ -145,7 +145,7 @@ const BLINKING: Form = Form {
     ..OFFSETS
 };
 
-const RUNNERS: [(&str, Form, Runner); 24] = [
+const RUNNERS: [(&str, Form, Runner); 25] = [
     ("text.tsv", PLACES, run_text),
     ("sample.tsv", PLACES, run_sample),
     ("wvtt_entry.tsv", PLACES, run_wvtt_entry),
@@ -168,6 +168,7 @@ const RUNNERS: [(&str, Form, Runner); 24] = [
     ("02/unpack.tsv", ANY_CTIM_NOTES, run_unpack),
     ("02/check.tsv", CTIM_NOTES, run_check),
     ("02/read_vtt.tsv", NOTES, run_read_vtt),
+    ("02/write_vtt.tsv", NOTES, run_write_vtt),
     ("02/tx3g_entry.tsv", OFFSETS, run_tx3g_entry),
     ("02/tx3g_sample.tsv", BLINKING, run_tx3g_sample),
 ];
@@ -411,14 +412,33 @@ fn run_read_vtt(library: &dyn Library, row: &Row) -> Verdict {
     both(compare_written(got, [&records, &pool], row), room)
 }
 
+fn run_write_vtt(library: &dyn Library, row: &Row) -> Verdict {
+    let [configuration, records, pool] = [0, 1, 2].map(|input| row.bytes(input));
+    let mut file = vec![UNTOUCHED; row.size(3)];
+    let got = nameless(library.write_vtt(&configuration, &records, &pool, &mut file));
+    let room = nameless(library.write_vtt_room(&configuration, &records, &pool));
+    let (expected, more) = row.judged();
+    let wanted = expected.map_or(Vec::new(), |()| bytes(more[0]));
+    let answer = compare_judged(got, expected.map(|()| wanted.len()));
+    let written = compare(got.map(|_| holds(&file, &wanted)), true);
+    let room = match expected {
+        Err(refused) if refused.number == NO_ROOM => {
+            let past = |bytes: usize| bytes > file.len();
+            compare_judged(room.map(|room| room.map(past)), Ok(true))
+        }
+        _ => compare_judged(room, expected.map(|()| wanted.len())),
+    };
+    both(both(answer, written), room)
+}
+
 fn run_check(library: &dyn Library, row: &Row) -> Verdict {
     let [records, pool, table, samples] = [2, 3, 4, 5].map(|input| row.bytes(input));
     let got = library.check(row.time(0), row.time(1), &records, &pool, &table, &samples);
     compare_judged(nameless(got), row.judged().0)
 }
 
-/// The check's answer without who is at fault, which rows do not give.
-fn nameless(got: Option<Result<(), Fault>>) -> Option<Result<(), Refusal>> {
+/// An answer without who is at fault, which rows of lists and tracks do not give.
+fn nameless<T>(got: Option<Result<T, Fault>>) -> Option<Result<T, Refusal>> {
     got.map(|answer| answer.map_err(|fault| fault.refusal))
 }
 

@@ -12,21 +12,19 @@ fn compared() -> Counts {
     differential(&Model, &Model, 1, ROUNDS).unwrap_or_else(|d| panic!("{d}"))
 }
 
+fn assert_reached(counts: &Counts, operation: &'static str, numbers: &[u32]) {
+    for &number in numbers {
+        let times = counts.compared.get(&(operation, number));
+        assert!(times.is_some(), "{operation} never gives {number}");
+    }
+}
+
 #[test]
 fn every_number_is_reached() {
     let counts = compared();
     print!("{counts}");
     assert_eq!(counts.total_skipped(), 0);
-    let reached = |operation: &'static str, numbers: &[u32]| {
-        for &number in numbers {
-            let times = counts
-                .compared
-                .get(&(operation, number))
-                .copied()
-                .unwrap_or(0);
-            assert!(times > 0, "{operation} never gives {number}");
-        }
-    };
+    let reached = |operation, numbers: &[u32]| assert_reached(&counts, operation, numbers);
     reached("box_step", &[0, 1, 2]);
     reached("judge_sample", &[0, 1, 2, 3, 4, 5, 6, 8, 9]);
     reached("next_cue", &[0, 1, 2]);
@@ -51,6 +49,9 @@ fn every_number_is_reached() {
     reached("next_modifier", &[0, 1, 2]);
     reached("program", &[0, 1, 6, 8, 9, 10, 11, 12, 15]);
     reached("read_vtt", &[0, 6, 9, 10, 11, 15, 18, 19]);
+    reached("write_vtt_room", &[0, 1, 6, 8, 9, 10, 11, 12]);
+    reached("write_vtt", &[0, 1, 6, 8, 9, 10, 11, 12, 15]);
+    reached("read_written_vtt", &[0, 19]);
 }
 
 /// Wherever a text is judged, texts are bad at the first offsets and at so many in all.
@@ -79,6 +80,7 @@ fn many_offsets_are_reached() {
     reached("unpack", 30);
     reached("check", 30);
     reached("read_vtt", 30);
+    reached("write_vtt", 30);
     reached("read_tx3g_sample", 30);
     reached("style", 30);
     reached("text_box", 30);

@@ -98,9 +98,11 @@ pub enum Who {
     Sample,
     List,
     Track,
+    Configuration,
+    Output,
 }
 
-/// A refusal where two things are read together.
+/// A refusal where more than one thing is lent.
 #[derive(Clone, Copy, Debug, PartialEq, Eq)]
 pub struct Fault {
     pub who: Who,

@@ -1,4 +1,8 @@
-//! Reading a WebVTT file into a cue list.
+//! WebVTT files: reading one into a cue list, and writing a list as one.
+
+mod write;
+
+pub use write::{comes_back, write, write_room};
 
 use crate::list::{Record, MOST_RECORDS, RECORD};
 use crate::number::*;
@@ -6,6 +10,9 @@ use crate::text::{identifier_fault, payload_fault};
 use crate::time::MOST_MS;
 use crate::wvtt::{MOST_IDENTIFIER, MOST_PAYLOAD};
 use crate::{ensure, ensure_text, Refusal};
+
+/// What stands between the times of a cue.
+const ARROW: &[u8] = b"-->";
 
 /// What reading wrote, or what it needs.
 #[derive(Clone, Copy, Debug, PartialEq, Eq)]
@@ -113,7 +120,7 @@ fn lines(text: &[u8]) -> Vec<Line<'_>> {
 }
 
 fn has_arrow(line: &Line) -> bool {
-    line.text.windows(3).any(|part| part == b"-->")
+    line.text.windows(3).any(|part| part == ARROW)
 }
 
 fn is_blank(byte: &u8) -> bool {
@@ -186,7 +193,7 @@ fn read_cue<'a>(block: &[Line<'a>], at: usize) -> Option<Cue<'a>> {
     let payload: Vec<&[u8]> = payload.iter().map(|line| line.text).collect();
     let Line { number, text } = block[at];
     let (start, rest) = read_time(text)?;
-    let rest = after_blanks(rest)?.strip_prefix(b"-->")?;
+    let rest = after_blanks(rest)?.strip_prefix(ARROW)?;
     let (end, rest) = read_time(after_blanks(rest)?)?;
     rest.first().is_none_or(is_blank).then(|| Cue {
         line: number,

@@ -1,7 +1,7 @@
 -- `records_write::put_texts` meets its contract: three texts, each behind the one before.
 use native.Mathlib.Omega.{arith}
 use borrow.Author.Needs.{needs}
-use Rattle.wvtt_write.proofs.Laws.{in-three}
+use Rattle.base.proofs.Over.{in-three}
 use Rattle.records_write.proofs.put_texts.Statement.{statement}
 use Rattle.records_write.proofs.put_texts.Tie as tie
 

@@ -1,6 +1,7 @@
 -- `wvtt_write::put_cue` meets its contract: three writes, each behind the one before.
+use Rattle.base.proofs.Over.{in-three}
 use Rattle.wvtt_write.proofs.Laws.{pooled-size}
-use Rattle.wvtt_write.proofs.Laws.{in-three, cue-is}
+use Rattle.wvtt_write.proofs.Laws.{cue-is}
 use Rattle.wvtt_write.specs.Written.{pooled, cueSize, textItems}
 use Rattle.wvtt.specs.Kinds.{vttc, vsid}
 use Rattle.boxes.proofs.Written.{length-box}

@@ -1,5 +1,6 @@
 -- `wvtt_write::put_texts` meets its contract: three writes, each behind the one before.
-use Rattle.wvtt_write.proofs.Laws.{in-three, length-any, pooled-lengths, texts-are}
+use Rattle.base.proofs.Over.{in-three}
+use Rattle.wvtt_write.proofs.Laws.{length-any, pooled-lengths, texts-are}
 use Rattle.wvtt_write.specs.Written.{ifAny, pooled, anySize, textsSize}
 use Rattle.wvtt.specs.Kinds.{iden, sttg}
 use Rattle.boxes.specs.Written.{itemBytes}

@@ -56,7 +56,7 @@ fn the_examples_run() {
 fn the_example_of_files_runs() {
     let (source, built) = (top().join("examples/c/vtt.c"), program("vtt"));
     compile("cc", &["-std=c99"], &source, &built);
-    let (output, folder) = run_in_folder(&built, "examples/vtt/saws.vtt");
+    let (output, folder) = run_in_folder(&built, "examples/vtt/saws.vtt", &[]);
     assert_eq!(output.status.code(), Some(0));
     assert_eq!(
         output.stdout,
@@ -69,11 +69,29 @@ fn the_example_of_files_runs() {
         written,
         [list.records(), list.pool()].map(|b| Some(b.to_vec()))
     );
-    let (output, folder) = run_in_folder(&built, "examples/vtt/style.vtt");
+    let (output, folder) = run_in_folder(&built, "examples/vtt/style.vtt", &[]);
     assert_eq!(output.status.code(), Some(1));
     assert_eq!(output.stdout, b"refused 18 9\na STYLE or REGION block\n");
     assert_eq!(fs::read_dir(folder).map(Iterator::count).ok(), Some(0));
-    let (output, _) = run_in_folder(&built, "rust/vectors/foreign/vtt/latin-1.vtt");
+    let (output, _) = run_in_folder(&built, "rust/vectors/foreign/vtt/latin-1.vtt", &[]);
     assert_eq!(output.status.code(), Some(1));
     assert_eq!(output.stdout, b"refused 6 4\nbad text, byte 7\n");
+}
+
+/// The file that the example writes is the one that the Rust crate writes.
+#[test]
+fn the_example_of_files_out_runs() {
+    let (source, built) = (top().join("examples/c/vtt_out.c"), program("vtt_out"));
+    compile("cc", &["-std=c99"], &source, &built);
+    let (output, folder) = run_in_folder(&built, "examples/vtt/saws.vtt", &["out.vtt"]);
+    assert_eq!(output.status.code(), Some(0));
+    assert_eq!(output.stdout, b"7 cues, 574 bytes\nthe same cues\n");
+    let file = fs::read(top().join("examples/vtt/saws.vtt")).expect("the file is there");
+    let list = captions::vtt::read(&file).expect("the file is good");
+    let file = captions::vtt::write("WEBVTT", &list).expect("the list is good");
+    assert_eq!(fs::read(folder.join("out.vtt")).ok(), Some(file));
+    let (output, folder) = run_in_folder(&built, "examples/vtt/style.vtt", &["out.vtt"]);
+    assert_eq!(output.status.code(), Some(1));
+    assert_eq!(output.stdout, b"refused 18 9\na STYLE or REGION block\n");
+    assert_eq!(fs::read_dir(folder).map(Iterator::count).ok(), Some(0));
 }

@@ -29,6 +29,11 @@
     "\0\0\0\1\0\0\x07\xd0\0\0\x0b\xb8\0\0\0\0\0\2\0\3\0\4\0\0"
 #define BAD_VTT_FILE "WEBVTT\r\rNOTE\r\r00:01.000 --> 00:02.500\rH\r-->"
 
+/* The same two cues as they are written behind another header. */
+#define VTT_HEADER "WEBVTT x\ny"
+#define VTT_WRITTEN                                                                                                                        \
+    VTT_HEADER "\n\n00:00:01.000 --> 00:00:02.500\n\nab\n00:00:02.000 --> 00:00:03.000 cde\nf\nhi\n"
+
 /* Every field has another value; two fonts. */
 #define TX3G_ENTRY                                                                                                                         \
     "\0\0\0\x43tx3g\0\0\0\0\0\0\1\2\3\4\5\6\xff\1\7\x08\x09\x0a\xff\xf5\xff\xf4\0\x0d\0\x0e\0\0\0\0\x0f\x10\x11\x12\x13\x14\x15\x16"    \
@@ -87,6 +92,11 @@ static void unpacked(CaptionsUnpacked u) {
 static void vtt_read(CaptionsVttRead r) {
     refusal("read", r.refusal);
     printf(": %zu %zu %zu\n", r.cues, r.record_bytes, r.pool_bytes);
+}
+
+static void vtt_written(CaptionsVttWritten w) {
+    refusal("write", w.refusal);
+    printf(": %u %zu\n", w.who, w.bytes);
 }
 
 static void checked(CaptionsChecked c) {
@@ -262,6 +272,24 @@ static void vtt_files(void) {
     printf("same %d %d %x %x\n", memcmp(records, VTT_RECORDS, 48), memcmp(pool, "abcdef\nhi", 9), records[48], pool[9]);
 }
 
+static void vtt_files_out(void) {
+    uint8_t file[128];
+    memset(file, 0xa5, sizeof file);
+    vtt_written(captions_vtt_write_room(TEXT(VTT_HEADER), TEXT(VTT_RECORDS), TEXT("abcdef\nhi")));
+    vtt_written(captions_vtt_write_room(TEXT("WEBVTX\xff"), TEXT(BAD_RECORDS), TEXT(BAD_POOL)));
+    vtt_written(captions_vtt_write_room(TEXT(VTT_HEADER), TEXT(BAD_RECORDS), TEXT(BAD_POOL)));
+    vtt_written(captions_vtt_write_room(TEXT(VTT_HEADER), NONE, NONE));
+    vtt_written(captions_vtt_write_room(NONE, NONE, NONE));
+    vtt_written(captions_vtt_write(TEXT("WEBVTT\n"), TEXT(VTT_RECORDS), TEXT("abcdef\nhi"), file, sizeof file));
+    vtt_written(captions_vtt_write(TEXT(VTT_HEADER), TEXT(VTT_RECORDS), TEXT("abcdef\nh"), file, sizeof file));
+    vtt_written(captions_vtt_write(TEXT(VTT_HEADER), TEXT(VTT_RECORDS), TEXT("abcdef\nhi"), file, sizeof VTT_WRITTEN - 2));
+    vtt_written(captions_vtt_write(TEXT(VTT_HEADER), TEXT(VTT_RECORDS), TEXT("abcdef\nhi"), NONE));
+    printf("untouched %x %x\n", file[0], file[127]);
+    vtt_written(captions_vtt_write(TEXT(VTT_HEADER), TEXT(VTT_RECORDS), TEXT("abcdef\nhi"), file, sizeof file));
+    printf("same %d %x\n", memcmp(file, VTT_WRITTEN, sizeof VTT_WRITTEN - 1), file[sizeof VTT_WRITTEN - 1]);
+    vtt_read(captions_vtt_read_room(file, sizeof VTT_WRITTEN - 1));
+}
+
 static void checks(void) {
     checked(captions_wvtt_check(90000, 1000, TEXT(RECORD), TEXT("Hi"), TEXT(TABLE), TEXT(SAMPLE)));
     checked(captions_wvtt_check(90000, 1000, TEXT(RECORD), TEXT("Ho"), TEXT(TABLE), TEXT(SAMPLE)));
@@ -337,6 +365,7 @@ int main(void) {
     unpacking();
     checks();
     vtt_files();
+    vtt_files_out();
     tx3g_entries();
     tx3g_samples();
     runs();

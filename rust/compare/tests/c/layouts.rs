@@ -41,6 +41,7 @@ fn in_rust() -> Vec<String> {
         CaptionsUnpacked { refusal record_bytes pool_bytes t }
         CaptionsChecked { refusal who }
         CaptionsVttRead { refusal cues record_bytes pool_bytes }
+        CaptionsVttWritten { refusal who bytes }
         CaptionsTx3gEntry {
             refusal data_reference_index display_flags horizontal vertical background_red background_green background_blue
             background_alpha top left bottom right font face size red green blue alpha fonts fonts_from

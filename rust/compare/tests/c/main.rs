@@ -64,13 +64,14 @@ fn run_file(source: &str, name: &str) -> String {
     run(&program(name))
 }
 
-/// Runs a program on a file of the tree in an empty folder, which is given too.
-fn run_in_folder(program: &Path, file: &str) -> (Output, PathBuf) {
+/// Runs a program on a file of the tree, and other words, in an empty folder, which is given too.
+fn run_in_folder(program: &Path, file: &str, words: &[&str]) -> (Output, PathBuf) {
     let folder = program.with_extension("folder");
     fs::remove_dir_all(&folder).ok();
     fs::create_dir(&folder).expect("a folder can be made");
     let mut command = Command::new(program);
-    command.arg(top().join(file)).current_dir(&folder);
+    command.arg(top().join(file)).args(words);
+    command.current_dir(&folder);
     (command.output().expect("the program runs"), folder)
 }
 

@@ -39,19 +39,15 @@ fn pattern(at: usize) -> u8 {
 
 /// An answer and both outputs after it.
 #[derive(Debug, PartialEq)]
-pub(super) struct Written<T> {
-    pub answer: Result<T, Refusal>,
+pub(super) struct Written<T, E = Refusal> {
+    pub answer: Result<T, E>,
     outputs: Outputs,
     /// Whether the bytes past the result, all on refusal, are as they were.
     pub kept: bool,
 }
 
-impl<T> Written<T> {
-    pub fn new(
-        answer: Result<T, Refusal>,
-        outputs: Outputs,
-        lengths: impl Fn(&T) -> [usize; 2],
-    ) -> Self {
+impl<T, E> Written<T, E> {
+    pub fn new(answer: Result<T, E>, outputs: Outputs, lengths: impl Fn(&T) -> [usize; 2]) -> Self {
         let kept = outputs.kept_from(answer.as_ref().map_or([0, 0], lengths));
         Written {
             answer,

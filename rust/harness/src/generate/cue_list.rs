@@ -180,7 +180,7 @@ fn dense_texts(random: &mut Random, count: usize) -> (Vec<Record>, Vec<u8>) {
 }
 
 /// Puts a record's texts at the end of the pool.
-fn put_texts(record: &mut Record, parts: [Vec<u8>; 3], pool: &mut Vec<u8>) {
+pub fn put_texts(record: &mut Record, parts: [Vec<u8>; 3], pool: &mut Vec<u8>) {
     let [identifier_len, settings_len, payload_len] = parts.each_ref().map(|p| p.len() as u16);
     *record = Record {
         offset: pool.len() as u32,

@@ -24,7 +24,8 @@ const GOOD: [&[u8]; 16] = [
     b"the quick brown fox jumps over the lazy dog",
 ];
 
-const LINES: [&[u8]; 3] = [b"\n", b"\r", b"\r\n"];
+/// What ends a line.
+pub const LINES: [&[u8]; 3] = [b"\n", b"\r", b"\r\n"];
 
 const BAD: [&[u8]; 18] = [
     b"\0",

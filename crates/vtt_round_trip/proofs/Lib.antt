@@ -1,0 +1,7 @@
+pub mod Lines
+pub mod Blocks
+pub mod Timing
+pub mod Writable
+pub mod File
+pub mod Records
+pub mod Needed
