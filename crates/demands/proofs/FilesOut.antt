@@ -1,6 +1,6 @@
 -- Proofs of what is said of writing a file.
 use Prim.Native.Nat.{ℕ, _≤_}
-use mathlib.Core.Path.{_≡_, refl, sym, ap, _∙_, subst, subst⁻¹}
+use mathlib.Core.Path.{_≡_, refl, sym, ap, ap₂, _∙_, subst, subst⁻¹}
 use mathlib.Core.Bool.{Bool, true, false}
 use mathlib.Core.List.{List}
 use native.Mathlib.Omega.{arith}
@@ -12,7 +12,7 @@ use Rattle.base.proofs.Over.{take-over, drop-over}
 use Rattle.viable.specs.declared.Judged.{Judged}
 use Rattle.viable.specs.declared.Judged.the-variants.{Right, Bad}
 use Rattle.viable.specs.FirstBad.{judgedBy}
-use Rattle.text.specs.Rules.{configurationText}
+use Rattle.text.specs.Rules.{webvtt, configurationText}
 use Rattle.text.specs.Beginnings.{configurationBegun}
 use Rattle.verdict.specs.declared.Verdict.{Verdict}
 use Rattle.verdict.specs.declared.Verdict.the-variants.{Fine, Refused}
@@ -25,18 +25,20 @@ use Rattle.cues.proofs.Sound.{fine-sound, sound-fine}
 use Rattle.records_write.specs.Records.{poolOf}
 use Rattle.vtt_read.specs.declared.FileRead.{FileRead}
 use Rattle.vtt_read.specs.declared.FileRead.the-variants.{Done as ReadDone}
-use Rattle.vtt_read.specs.Reading.{fileRecords, readRoom}
+use Rattle.vtt_read.specs.Reading.{fileRecords, filePool, readRoom}
+use Rattle.vtt_laws.proofs.Read.{ReadSo, read-so}
 use Rattle.vtt_write.specs.declared.FileWritten.{FileWritten}
 use Rattle.vtt_write.specs.declared.FileWritten.the-variants.{Done, NoRoom}
 use Rattle.vtt_write.specs.Writing.{fileBytes, byBoth, writeRoom, lent, writtenOf}
 use Rattle.vtt_write.proofs.Answers.{room-fine, lent-done}
 use Rattle.vtt_round_trip.specs.Statements.{SameButIds}
 use Rattle.vtt_round_trip.proofs.Records.{records-come-back, room-comes-back}
+use Rattle.vtt_round_trip.proofs.Again.{lists-come-back}
 use Rattle.vtt_round_trip.proofs.Needed.{empty-line-lost, arrow-lost, first-line-lost, payload-lost, settings-begin-lost, settings-end-lost}
 use Rattle.demands.specs.Calls.{ReadCall, WriteCall}
 use Rattle.demands.specs.Unpacking.{textBytes}
 use Rattle.demands.specs.Files.{Tells}
-use Rattle.demands.specs.FilesOut.{WriteFileWrites, WrittenFileComesBack, PremisesNeeded, TellsOut, WriteRoomTells, Blames, WritingBlames, PackedListsAreWritten}
+use Rattle.demands.specs.FilesOut.{WriteFileWrites, WrittenFileComesBack, ReadFileComesBack, PremisesNeeded, TellsOut, WriteRoomTells, Blames, WritingBlames, PackedListsAreWritten}
 use Rattle.demands.proofs.Offsets.{offsets-are}
 use Rattle.demands.proofs.Unpacking.{pool-length}
 use Rattle.demands.proofs.Files.{records-are, pool-is, read-room-tells}
@@ -102,6 +104,63 @@ pub write-room-tells : WriteRoomTells
 unfolding writtenOf writeRoom
 write-room-tells configuration records pool file after answer c =
     tells-out (textAt 0 (judgedBy configurationText configurationBegun configuration)) (judgeList 1000 359999999 records pool) (length (fileBytes configuration records pool)) (length file) answer (c .answers)
+
+-- ---- a file that is read, written and read again
+
+module _ (first records pool recordsAfter poolAfter : List ℕ) (n r p : ℕ) (c : ReadCall first records pool recordsAfter poolAfter (ReadDone n r p)) where
+  read : ReadSo first (length records) (length pool) n r p
+  read = read-so first (length records) (length pool) n r p (sym (c .answers))
+
+  list-is : take r recordsAfter ≡ fileRecords first
+  list-is = records-are first records pool recordsAfter poolAfter n r p c
+
+  texts-are : take p poolAfter ≡ filePool first
+  texts-are = pool-is first records pool recordsAfter poolAfter n r p c
+
+  again : List ℕ
+  again = fileBytes webvtt (fileRecords first) (filePool first)
+
+  again-is : fileBytes webvtt (take r recordsAfter) (take p poolAfter) ≡ again
+  unfolding again
+  again-is = ap₂ (fileBytes webvtt) list-is texts-are
+
+  -- the room that writing needs
+  room-is : writeRoom webvtt (take r recordsAfter) (take p poolAfter) ≡ Done (length again)
+  unfolding again
+  room-is =
+      let b = lists-come-back first (read .fine) in
+      ap₂ (writeRoom webvtt) list-is texts-are ∙ b .1 ∙ ap Done (sym (room-fine webvtt (fileRecords first) (filePool first) (b .0) (b .1) .2))
+
+  -- the room that reading it needs
+  back-is : readRoom again ≡ ReadDone n r p
+  unfolding again readRoom
+  back-is =
+      let b = lists-come-back first (read .fine) in
+      rw (b .2, b .3, ← read .cues, ← read .records, ← read .pool)
+
+  read-again : (x others pond othersAfter pondAfter : List ℕ) (said : FileRead) → x ≡ again → ReadCall x others pond othersAfter pondAfter said → r ≤ length others → p ≤ length pond
+      → (said ≡ ReadDone n r p) × (take r othersAfter ≡ take r recordsAfter) × (take p pondAfter ≡ take p poolAfter)
+  unfolding again
+  read-again x others pond othersAfter pondAfter said e g a b =
+      let i : ReadCall again others pond othersAfter pondAfter said = subst (λ (y : List ℕ). ReadCall y others pond othersAfter pondAfter said) e g in
+      let t : Tells (ReadDone n r p) (length others) (length pond) said = subst (λ (u : FileRead). Tells u (length others) (length pond) said) back-is (read-room-tells again others pond othersAfter pondAfter said i) in
+      let d = t .0 a b in
+      let j : ReadCall again others pond othersAfter pondAfter (ReadDone n r p) = subst (ReadCall again others pond othersAfter pondAfter) d i in
+      let w = lists-come-back first (read .fine) in
+      (d, records-are again others pond othersAfter pondAfter n r p j ∙ w .4 ∙ sym list-is, pool-is again others pond othersAfter pondAfter n r p j ∙ w .5 ∙ sym texts-are)
+
+pub read-file-comes-back : ReadFileComesBack
+read-file-comes-back first records pool recordsAfter poolAfter n r p c file after answer w h =
+    let list = take r recordsAfter in
+    let texts = take p poolAfter in
+    let f = fileBytes webvtt list texts in
+    let e = again-is first records pool recordsAfter poolAfter n r p c in
+    let k : writeRoom webvtt list texts ≡ Done (length f) = room-is first records pool recordsAfter poolAfter n r p c ∙ ap (λ (x : List ℕ). Done (length x)) (sym e) in
+    let t : TellsOut (Done (length f)) (length file) answer = subst (λ (x : FileWritten). TellsOut x (length file) answer) k (write-room-tells webvtt list texts file after answer w) in
+    let d = t .0 h in
+    let q : WriteCall webvtt list texts file after (Done (length f)) = subst (WriteCall webvtt list texts file after) d w in
+    let z = file-is webvtt list texts file after (length f) q ∙ e in
+    (d, λ others pond othersAfter pondAfter said g a b. read-again first records pool recordsAfter poolAfter n r p c (take (length f) after) others pond othersAfter pondAfter said z g a b)
 
 -- ---- who is at fault
 

@@ -4,7 +4,7 @@ use mathlib.Core.Path.{_≡_}
 use mathlib.Core.List.{List}
 use lib.ListN.{length, take, drop}
 use Rattle.viable.specs.FirstBad.{FirstBad, Passes}
-use Rattle.text.specs.Rules.{configurationText}
+use Rattle.text.specs.Rules.{webvtt, configurationText}
 use Rattle.verdict.specs.declared.Verdict.the-variants.{Fine, Refused}
 use Rattle.verdict.specs.Judgement.{fault, badText}
 use Rattle.records.specs.Records.{count}
@@ -35,6 +35,17 @@ WrittenFileComesBack =
     → length records ≤ length others → textBytes records (count records) ≤ length pond
     → (answer ≡ ReadDone (count records) (length records) (textBytes records (count records)))
     × SameButIds records pool (take (length records) othersAfter) (take (textBytes records (count records)) pondAfter)
+
+-- a file that is read, written behind the header `WEBVTT` and read again, with enough room, gives the same records and pool byte for byte
+abbrev pub ReadFileComesBack : Type 0
+ReadFileComesBack =
+    (first records pool recordsAfter poolAfter : List ℕ) (n r p : ℕ) → ReadCall first records pool recordsAfter poolAfter (ReadDone n r p)
+    → (file after : List ℕ) (answer : FileWritten) → WriteCall webvtt (take r recordsAfter) (take p poolAfter) file after answer
+    → let m = length (fileBytes webvtt (take r recordsAfter) (take p poolAfter)) in
+    m ≤ length file
+    → (answer ≡ Done m)
+    × ((others pond othersAfter pondAfter : List ℕ) (said : FileRead) → ReadCall (take m after) others pond othersAfter pondAfter said → r ≤ length others → p ≤ length pond
+    → (said ≡ ReadDone n r p) × (take r othersAfter ≡ take r recordsAfter) × (take p pondAfter ≡ take p poolAfter))
 
 -- each premise is needed: a list that keeps the other five is written, and does not come back
 pub record PremisesNeeded : Type 0 where

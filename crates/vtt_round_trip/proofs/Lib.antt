@@ -4,4 +4,5 @@ pub mod Timing
 pub mod Writable
 pub mod File
 pub mod Records
+pub mod Again
 pub mod Needed

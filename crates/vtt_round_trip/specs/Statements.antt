@@ -54,6 +54,21 @@ RoomComesBack =
     (configuration records pool : List ℕ) (n : ℕ) → writeRoom configuration records pool ≡ Done n → Premises configuration (captionsOf records pool)
     → readRoom (fileBytes configuration records pool) ≡ ReadDone (count records) (length records) (length (poolOf (cuesOf 1000 records pool)))
 
+-- ---- a file that is read, written and read again
+
+-- the cues that are read of a file keep the premises behind `WEBVTT` alone
+abbrev pub ReadIsPlain : Type 0
+ReadIsPlain = (file : List ℕ) → judgeFile file ≡ Fine → Premises webvtt (fileCues file)
+
+-- writing their list behind `WEBVTT` finds no fault, and reading the written file finds none and gives the very same cues, records and pool
+abbrev pub ListsComeBack : Type 0
+ListsComeBack =
+    (file : List ℕ) → judgeFile file ≡ Fine
+    → let records = fileRecords file in
+    let pool = filePool file in
+    let again = fileBytes webvtt records pool in
+    (n : ℕ) × (writeRoom webvtt records pool ≡ Done n) × (judgeFile again ≡ Fine) × (fileCues again ≡ fileCues file) × (fileRecords again ≡ records) × (filePool again ≡ pool)
+
 -- ---- no premise can be left out: each has a list that is written and lost, though the other five hold
 
 -- the list is written, and reading the file finds a fault or other cues
