@@ -197,7 +197,7 @@ webvtt-right = refl
 
 pub read-is-plain : ReadIsPlain
 unfolding fileCues
-read-is-plain file e = record { header = webvtt-header; plain = lines-plain (linesOf (unmarked file)) (lines-free (unmarked file)) }
+read-is-plain file = record { header = webvtt-header; plain = lines-plain (linesOf (unmarked file)) (lines-free (unmarked file)) }
 
 -- ---- the list
 
@@ -243,6 +243,6 @@ lists-come-back file e =
     let p = poolOf (numberedFrom 0 cs) in
     let same = captions-are cs (w .0) (w .1) in
     let d = list-written cs (w .0) (w .1) in
-    let back = cues-come-back webvtt r p (d .0) (d .1) (subst⁻¹ (Premises webvtt) same (read-is-plain file e)) in
+    let back = cues-come-back webvtt r p (d .0) (d .1) (subst⁻¹ (Premises webvtt) same (read-is-plain file)) in
     let q : fileCues (fileBytes webvtt r p) ≡ cs = back .1 ∙ same in
     (d .0, d .1, back .0, q, ap (λ (x : List Caption). recordsOf 1000 (numberedFrom 0 x)) q, ap (λ (x : List Caption). poolOf (numberedFrom 0 x)) q)

@@ -56,9 +56,9 @@ RoomComesBack =
 
 -- ---- a file that is read, written and read again
 
--- the cues that are read of a file keep the premises behind `WEBVTT` alone
+-- the cues of a file, whatever else it holds, keep the premises behind `WEBVTT` alone
 abbrev pub ReadIsPlain : Type 0
-ReadIsPlain = (file : List ℕ) → judgeFile file ≡ Fine → Premises webvtt (fileCues file)
+ReadIsPlain = (file : List ℕ) → Premises webvtt (fileCues file)
 
 -- writing their list behind `WEBVTT` finds no fault, and reading the written file finds none and gives the very same cues, records and pool
 abbrev pub ListsComeBack : Type 0
