@@ -3,7 +3,7 @@ use Prim.Native.Nat.{ℕ, _+_, _≤_, _<_}
 use mathlib.Core.Path.{_≡_, refl, sym, ap, _∙_}
 use mathlib.Core.List.{List, [], _∷_, _++_, append-assoc, append-nil}
 use native.Mathlib.Omega.{arith}
-use native.Mathlib.Nat.{add-zero, add-assoc}
+use native.Mathlib.Nat.{zero-add, add-zero, add-assoc}
 use lib.ListN.{length, take, drop, set, length-append, length-drop, length-take, take-append-drop}
 use lib.Seq.{drop-at, paste, sets, sets-eq, take-at, drop-append-add, drop-drop, length-take-le}
 use Rattle.base.specs.Over.{over, wrote}
@@ -52,6 +52,11 @@ over-wrote p d v at e = put p d v at e
 pub wrote-nil : (d : List ℕ) (at : ℕ) → d ≡ wrote d at []
 unfolding wrote
 wrote-nil d at = rw (add-zero, append-nil) (sym (take-append-drop at d))
+
+-- from the first place on
+pub wrote-over : (d p : List ℕ) → wrote d 0 p ≡ over p d
+unfolding wrote over
+wrote-over d p = ap (λ (k : ℕ). p ++ drop k d) (zero-add (length p))
 
 pub sets-wrote : (d : List ℕ) (at : ℕ) (v : List ℕ) → at + length v ≤ length d → sets d at v ≡ wrote d at v
 unfolding wrote

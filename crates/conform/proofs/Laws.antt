@@ -41,10 +41,6 @@ use Rattle.conform.specs.Window.{Ended, Started, Later, Rises, Pooled, R
 
 -- ---- records
 
-pub in-records : (recs : List ℕ) (i : ℕ) → i < count recs → i * 24 + 24 ≤ length recs
-unfolding count
-in-records recs i h = omega arith
-
 module _ (scale : ℕ) (recs : List ℕ) where
   pub ended-more : (b i : ℕ) → Ended scale recs i b → tick scale (endMs recs i) ≤ b → Ended scale recs (i + 1) b
   ended-more b i h g j l = either (suc j) i (λ m. h j m) (λ m. let e : j ≡ i = omega arith in rw e g)

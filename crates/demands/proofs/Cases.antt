@@ -24,7 +24,7 @@ use Rattle.wvtt.specs.Sample.{judgeId, judgeText, judgeBody, inCue, judgeCue, i
 use Rattle.wvtt_cues.specs.Cues.{nowhere, placed, bodyOf, withId, partsOf, textOf, heldBy, cuesIn, sampleCues, nextCue}
 use Rattle.wvtt_cues.specs.Terms.{placesOf}
 use Rattle.wvtt_write.specs.Written.{textItems, cueItems, cueBytes, cuesBytes, sampleBytes, pooled, textsSize, cueSize}
-use Rattle.cues.specs.List.{bodyOf as bodyOf-List, cueOf, cuesOf}
+use Rattle.cues.specs.List.{bodyOf as bodyOf-List, cueOf, cuesOf, captionsOf}
 use Rattle.records.specs.Records.{count, sourceId, startMs, endMs, textOffset, identifierLength, settingsLength, payloadLength, reserved, settingsOffset, payloadOffset, textsEnd, piece, identifierOf, settingsOf, payloadOf}
 use Rattle.cues.specs.Caption.{longTexts, judgeTexts, badTimes as badTimes-Caption, judgeContent, judgeCaption}
 use Rattle.cues.specs.Judgement.{badValue, pastPool, captionOf, startBefore, judgeRecord, stoodEarlier, judgeIds, judgeList}
@@ -39,7 +39,7 @@ use Rattle.vtt_lines.specs.Lines.{linesOf, joined, filled, blocksFrom, holdsArr
 use Rattle.vtt_timing.specs.Timing.{blank as blank-Timing, unblank, edge, trimmedEnd, trimmed, afterWord, timingOf}
 use Rattle.vtt_blocks.specs.Kinds.{opens, names, plainKind, laterKind, kindOf}
 use Rattle.vtt_read.specs.Reading.{judgeKind, judgeBlocks, cuesIn as cuesIn-Reading, unmarked, badHeader, judgeLines, cuesOfLines, judgeFile, fileCues, cueWith, numberedFrom, fileRecords, filePool, readRoom, readOf}
-use Rattle.vtt_write.specs.Writing.{timesText, timingText, cueText, fileOf, captionsOf, fileBytes, writeRoom, writtenOf}
+use Rattle.vtt_write.specs.Writing.{timesText, timingText, cueText, fileOf, fileBytes, writeRoom, writtenOf}
 use Rattle.input.specs.Line.{isDigit, top, before, behind, allDigits, written, lineOf}
 use Rattle.report.specs.Report.{listText, usable, answerText}
 use Rattle.demands.specs.Cases.{rowBytes as rowBytes-here, rowsBytes, rowsPool, heldBy as heldBy-here, timesOf, askPacking, askUnpacking, asked, cases, CasesHold}

@@ -9,11 +9,12 @@ use Rattle.verdict.specs.declared.Verdict.the-variants.{Fine, Refused}
 use Rattle.verdict.specs.Judgement.{fault, badText}
 use Rattle.records.specs.Records.{count}
 use Rattle.cues.specs.Judgement.{judgeList}
+use Rattle.cues.specs.List.{captionsOf}
 use Rattle.vtt_read.specs.declared.FileRead.{FileRead}
 use Rattle.vtt_read.specs.declared.FileRead.the-variants.{Done as ReadDone}
 use Rattle.vtt_write.specs.declared.FileWritten.{FileWritten}
 use Rattle.vtt_write.specs.declared.FileWritten.the-variants.{Done, BadConfiguration, BadList, NoRoom}
-use Rattle.vtt_write.specs.Writing.{captionsOf, fileBytes, writeRoom}
+use Rattle.vtt_write.specs.Writing.{fileBytes, writeRoom}
 use Rattle.vtt_round_trip.specs.Premises.{Premises}
 use Rattle.vtt_round_trip.specs.Statements.{SameButIds, EmptyLineLost, ArrowLost, FirstLineLost, PayloadLost, SettingsBeginLost, SettingsEndLost}
 use Rattle.demands.specs.Calls.{ReadCall, WriteCall}

@@ -6,7 +6,7 @@ use native.Mathlib.Omega.{arith}
 use native.Mathlib.Numerals.{add-one}
 use lib.ListN.{length, set, length-append}
 use Rattle.base.specs.Over.{over, wrote}
-use Rattle.base.proofs.Over.{in-two, then-byte, over-wrote}
+use Rattle.base.proofs.Over.{in-two, then-byte, over-wrote, wrote-over}
 use Rattle.decimal.specs.Decimal.{decimal}
 use Rattle.listing.specs.Listing.{numberText, pairText, rowText, rowsText, word, refusalText}
 
@@ -45,6 +45,6 @@ unfolding refusalText
 length-refusal n p = length-append word (pairText n p)
 
 pub refused-text : (d d₁ d₂ : List ℕ) (n p : ℕ) → d₁ ≡ wrote d 0 word → d₂ ≡ wrote d₁ 8 (pairText n p) → 8 ≤ length d → d₂ ≡ over (refusalText n p) d
-unfolding refusalText over
+unfolding refusalText
 refused-text d d₁ d₂ n p e f h =
-    in-two d d₁ d₂ word (pairText n p) 0 8 e f refl h ∙ over-wrote [] d (word ++ pairText n p) 0 refl
+    in-two d d₁ d₂ word (pairText n p) 0 8 e f refl h ∙ wrote-over d (word ++ pairText n p)

@@ -1,11 +1,16 @@
 -- The texts of a record: their order and their lengths.
-use Prim.Native.Nat.{ℕ, _+_, _-_, _≤_}
+use Prim.Native.Nat.{ℕ, _+_, _-_, _*_, _<_, _≤_}
 use mathlib.Core.Path.{_≡_, refl, ap, _∙_}
 use mathlib.Core.List.{List}
 use native.Mathlib.Omega.{arith}
 use lib.ListN.{length, take, drop, length-drop}
 use lib.Seq.{length-take-le}
-use Rattle.records.specs.Records.{textOffset, identifierLength, settingsOffset, settingsLength, payloadOffset, payloadLength, textsEnd, piece, identifierOf, settingsOf, payloadOf}
+use Rattle.records.specs.Records.{count, textOffset, identifierLength, settingsOffset, settingsLength, payloadOffset, payloadLength, textsEnd, piece, identifierOf, settingsOf, payloadOf}
+
+-- a record that is counted lies within the bytes
+pub in-records : (recs : List ℕ) (i : ℕ) → i < count recs → i * 24 + 24 ≤ length recs
+unfolding count
+in-records recs i h = omega arith
 
 -- the texts stand one after the other
 pub record InOrder (recs : List ℕ) (i : ℕ) : Type 0 where

@@ -20,6 +20,7 @@ use Rattle.timeline.proofs.Listing.{length-listed, listed-at}
 use Rattle.verdict.proofs.Judgement.{text-right}
 use Rattle.records.specs.Records.{count}
 use Rattle.cues.specs.Caption.{Caption, caption}
+use Rattle.cues.specs.List.{captionsOf}
 use Rattle.cues.specs.Judgement.{captionOf}
 use Rattle.cues.proofs.Sound.{sound-fine}
 use Rattle.records_write.specs.Records.{recordsOf, poolOf}
@@ -33,7 +34,7 @@ use Rattle.vtt_blocks.specs.Kinds.{Kind, cue, untimed, note, style, other, NOTE
 use Rattle.vtt_blocks.proofs.Blocks.{block}
 use Rattle.vtt_read.specs.Reading.{withCue, cuesIn, unmarked, cuesOfLines, numberedFrom, fileCues, fileRecords, filePool}
 use Rattle.vtt_write.specs.declared.FileWritten.the-variants.{Done}
-use Rattle.vtt_write.specs.Writing.{captionsOf, fileBytes, writeRoom}
+use Rattle.vtt_write.specs.Writing.{fileBytes, writeRoom}
 use Rattle.vtt_laws.proofs.Sound.{Sounds, file-sound}
 use Rattle.vtt_laws.proofs.Records.{nothing, start-at, end-at, identifier-at, settings-at, payload-at, records-many, records-sound}
 use Rattle.vtt_round_trip.specs.Premises.{Without, ends, Header, Plain, Each, Premises}

@@ -19,6 +19,7 @@ use Rattle.times.specs.Times.{tick, scaleAllowed, timelineAllowed}
 use Rattle.timeline.specs.Lists.{listed}
 use Rattle.records.specs.Records.{count, sourceId, startMs, endMs, textOffset, identifierLength, settingsLength, payloadLength, reserved, settingsOffset, payloadOffset, textsEnd, piece, identifierOf, settingsOf, payloadOf}
 use Rattle.cues.specs.Caption.{Caption, caption, longTexts, judgeTexts, badTimes, judgeContent, judgeCaption}
+use Rattle.cues.specs.List.{captionsOf}
 use Rattle.cues.specs.Judgement.{badValue, pastPool, captionOf, startBefore, judgeRecord, stoodEarlier, judgeIds, judgeList}
 use Rattle.records_write.specs.Records.{recordBytes}
 use Rattle.decimal.specs.Decimal.{valueFrom, value}
@@ -27,7 +28,7 @@ use Rattle.vtt_lines.specs.Lines.{linesOf, joined, filled, blocksFrom, holdsArr
 use Rattle.vtt_timing.specs.Timing.{blank, unblank, edge, trimmedEnd, trimmed, afterWord, timingOf}
 use Rattle.vtt_blocks.specs.Kinds.{opens, names, plainKind, laterKind, kindOf}
 use Rattle.vtt_read.specs.Reading.{judgeKind, judgeBlocks, cuesIn, unmarked, badHeader, judgeLines, cuesOfLines, judgeFile, fileCues}
-use Rattle.vtt_write.specs.Writing.{timesText, timingText, cueText, fileOf, captionsOf, fileBytes, writeRoom}
+use Rattle.vtt_write.specs.Writing.{timesText, timingText, cueText, fileOf, fileBytes, writeRoom}
 use Rattle.vtt_round_trip.specs.Premises.{ends, NoCR, SettingsBegin, SettingsEnd, Plain, Each}
 use Rattle.vtt_round_trip.specs.Statements.{EmptyLineLost, ArrowLost, FirstLineLost, PayloadLost, SettingsBeginLost, SettingsEndLost}
 

@@ -17,13 +17,13 @@ use Rattle.records.specs.Records.{count, startMs}
 use Rattle.records.proofs.Laws.{text-lengths}
 use Rattle.cues.specs.Caption.{Caption, SoundCaption}
 use Rattle.cues.specs.Judgement.{captionOf, startBefore, judgeList}
-use Rattle.cues.specs.List.{bodyOf, cueOf, cuesOf, Sound}
+use Rattle.cues.specs.List.{bodyOf, cueOf, cuesOf, Sound, captionsOf}
 use Rattle.cues.proofs.Sound.{fine-iff, length-cues}
 use Rattle.records_write.specs.Records.{textsOf, poolTo, recordsOf, poolOf}
 use Rattle.vtt_read.specs.Reading.{cueWith, numberedFrom, fileCues, fileRecords, filePool, readRoom}
 use Rattle.vtt_read.proofs.Lists.{length-from, cue-at}
 use Rattle.vtt_write.specs.declared.FileWritten.the-variants.{Done}
-use Rattle.vtt_write.specs.Writing.{captionsOf, fileBytes, byBoth, writeRoom}
+use Rattle.vtt_write.specs.Writing.{fileBytes, byBoth, writeRoom}
 use Rattle.vtt_laws.proofs.Sound.{Sounds}
 use Rattle.vtt_laws.proofs.Records.{nothing, id-at, start-at, end-at, identifier-at, settings-at, payload-at, records-many, records-length}
 use Rattle.vtt_round_trip.specs.Statements.{CuesComeBack, SameButIds, RecordsComeBack, RoomComesBack}

@@ -9,12 +9,12 @@ use Rattle.text.specs.Rules.{webvtt}
 use Rattle.verdict.specs.declared.Verdict.the-variants.{Fine}
 use Rattle.records.specs.Records.{count, sourceId, startMs, endMs, identifierOf, settingsOf, payloadOf}
 use Rattle.cues.specs.Caption.{Caption}
-use Rattle.cues.specs.List.{cuesOf}
+use Rattle.cues.specs.List.{cuesOf, captionsOf}
 use Rattle.records_write.specs.Records.{recordBytes, poolOf}
 use Rattle.vtt_read.specs.declared.FileRead.the-variants.{Done as ReadDone}
 use Rattle.vtt_read.specs.Reading.{judgeFile, fileCues, fileRecords, filePool, readRoom}
 use Rattle.vtt_write.specs.declared.FileWritten.the-variants.{Done}
-use Rattle.vtt_write.specs.Writing.{captionsOf, fileBytes, writeRoom}
+use Rattle.vtt_write.specs.Writing.{fileBytes, writeRoom}
 use Rattle.vtt_round_trip.specs.Premises.{NoEmptyLine, NoArrow, FirstLineTaken, Header, NoCR, SettingsBegin, SettingsEnd, Plain, Each, Premises}
 
 -- ---- the cues

@@ -1,5 +1,5 @@
 -- Laws of what is written: lengths, and cues one behind the other.
-use Prim.Native.Nat.{ℕ, zero, suc, _+_, _-_, _*_, _/_, _<_, _≤_}
+use Prim.Native.Nat.{ℕ, zero, suc, _+_, _-_, _/_, _<_, _≤_}
 use mathlib.Core.Path.{_≡_, refl, sym, ap, _∙_}
 use mathlib.Core.Logic.{by-cases}
 use mathlib.Core.List.{List, [], _∷_, _++_, map, map-append, append-assoc}
@@ -10,19 +10,19 @@ use native.Mathlib.Numerals.{add-one}
 use lib.ListN.{length, take, drop, set, length-append}
 use lib.Seq.{sets}
 use Rattle.base.specs.Over.{over, wrote}
-use Rattle.base.proofs.Over.{wrote-nil, sets-wrote, length-wrote, in-two, in-three, then-byte, byte-then}
+use Rattle.base.proofs.Over.{wrote-nil, wrote-over, sets-wrote, length-wrote, in-two, in-three, then-byte, byte-then}
 use Rattle.utf8.specs.Strings.{LF}
 use Rattle.utf8.specs.Forbidden.{arrow}
 use Rattle.timeline.specs.Lists.{listed}
 use Rattle.records.specs.Records.{count, textOffset, settingsOffset, payloadOffset, textsEnd, identifierLength, settingsLength, payloadLength, startMs, endMs}
 use Rattle.cues.specs.Caption.{Caption, caption}
 use Rattle.cues.specs.Judgement.{captionOf}
-use Rattle.cues.specs.List.{Sound}
+use Rattle.cues.specs.List.{Sound, captionsOf}
 use Rattle.records.proofs.Laws.{parts-are, text-lengths}
 use Rattle.timestamps.specs.Timestamps.{timeText}
 use Rattle.timestamps.proofs.Written.{length-time}
 use Rattle.vtt_lines.specs.Lines.{Line, joined}
-use Rattle.vtt_write.specs.Writing.{lineText, spaced, timesText, timingText, cueText, fileOf, captionsOf, fileBytes}
+use Rattle.vtt_write.specs.Writing.{lineText, spaced, timesText, timingText, cueText, fileOf, fileBytes}
 use Rattle.vtt_write.specs.Steps.{lineSize, cueSize, gap, gapSize, cuesTo, sizeTo}
 
 -- ---- a text with its line end or its space
@@ -206,10 +206,6 @@ size-within recs i (suc n) h = by-cases (decLt i n) (λ l. omega (arith, size-wi
 
 -- ---- a record's cue
 
-pub record-at : (recs : List ℕ) (i : ℕ) → i < count recs → i * 24 + 24 ≤ length recs
-unfolding count
-record-at recs i h = omega arith
-
 -- the parts of the pool are its texts
 module _ (recs pool : List ℕ) (i a b e l : ℕ) (p : a ≡ textOffset recs i) (q : b ≡ settingsOffset recs i) (r : e ≡ payloadOffset recs i) (s : l ≡ textsEnd recs i) where
   pub pooled-is : (start end : ℕ) → start ≡ startMs recs i → end ≡ endMs recs i
@@ -250,10 +246,6 @@ cues-on d d₁ d₂ recs pool at p i s h l q e f =
     ∙ ap (wrote d at) (sym (ap (cuesTo recs pool) (add-one i) ∙ cues-more recs pool i))
 
 -- ---- the file
-
-wrote-over : (d p : List ℕ) → wrote d 0 p ≡ over p d
-unfolding wrote over
-wrote-over d p = ap (λ (k : ℕ). p ++ drop k d) (zero-add (length p))
 
 -- its parts, with all cues
 file-is : (c recs pool : List ℕ) → fileBytes c recs pool ≡ c ++ LF ∷ [] ++ LF ∷ [] ++ cuesTo recs pool (count recs)

@@ -10,13 +10,12 @@ use Rattle.utf8.specs.Forbidden.{arrow}
 use Rattle.viable.specs.FirstBad.{judgedBy}
 use Rattle.text.specs.Rules.{configurationText}
 use Rattle.text.specs.Beginnings.{configurationBegun}
-use Rattle.timeline.specs.Lists.{listed}
 use Rattle.verdict.specs.declared.Verdict.{Verdict}
 use Rattle.verdict.specs.declared.Verdict.the-variants.{Fine, Refused}
 use Rattle.verdict.specs.Judgement.{fault, textAt}
-use Rattle.records.specs.Records.{count}
 use Rattle.cues.specs.Caption.{Caption}
-use Rattle.cues.specs.Judgement.{captionOf, judgeList}
+use Rattle.cues.specs.Judgement.{judgeList}
+use Rattle.cues.specs.List.{captionsOf}
 use Rattle.timestamps.specs.Timestamps.{timeText}
 use Rattle.vtt_lines.specs.Lines.{joined}
 use Rattle.vtt_write.specs.declared.FileWritten.{FileWritten}
@@ -54,10 +53,6 @@ unfoldable pub fileOf : List ℕ → List Caption → List ℕ
 unfolding cueText joined
 fileOf configuration cs = configuration ++ LF ∷ LF ∷ joined (map cueText cs)
 
--- the captions of the records, in their order
-unfoldable pub captionsOf : List ℕ → List ℕ → List Caption
-captionsOf recs pool = listed (captionOf recs pool) (count recs)
-
 -- the file of a configuration and a list
 unfoldable pub fileBytes : List ℕ → List ℕ → List ℕ → List ℕ
 unfolding fileOf captionsOf
@@ -65,6 +60,7 @@ fileBytes configuration recs pool = fileOf configuration (captionsOf recs pool)
 
 -- ---- the answer
 
+-- whose fault it is: the configuration's comes before the list's
 abbrev pub byList : Verdict → ℕ → FileWritten
 byList Fine n = Done n
 byList (Refused r) n = BadList r

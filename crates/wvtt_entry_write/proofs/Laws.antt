@@ -10,7 +10,7 @@ use lib.ListN.{length, length-append}
 use lib.Seq.{take-length}
 use borrow.Author.Tests.{lt-ltb}
 use Rattle.base.specs.Over.{over, wrote}
-use Rattle.base.proofs.Over.{over-nil, over-wrote, wrote-more}
+use Rattle.base.proofs.Over.{over-wrote, wrote-over, wrote-more}
 use Rattle.base.proofs.Choice.{true-false}
 use Rattle.verdict.specs.Judgement.{fault}
 use Rattle.fields.specs.BigEndian.{bytes}
@@ -92,7 +92,7 @@ head-written d d₁ d₂ d₃ d₄ size kind index e₁ e₂ e₃ e₄ =
     let l : length a ≡ 8 = simp (length-append, length-bytes) in
     let l₂ : length (a ++ bytes 4 0) ≡ 12 = simp (length-append, length-bytes) in
     let l₃ : length (a ++ bytes 4 0 ++ bytes 2 0) ≡ 14 = simp (length-append, length-bytes) in
-    let f₁ : d₁ ≡ over a d = e₁ ∙ ap (λ (x : List ℕ). wrote x 0 a) (over-nil d) ∙ over-wrote [] d a 0 refl in
+    let f₁ : d₁ ≡ over a d = e₁ ∙ wrote-over d a in
     let f₂ : d₂ ≡ over (a ++ bytes 4 0) d = e₂ ∙ ap (λ (x : List ℕ). wrote x 8 (bytes 4 0)) f₁ ∙ over-wrote a d (bytes 4 0) 8 (sym l) in
     let f₃ : d₃ ≡ over (a ++ bytes 4 0 ++ bytes 2 0) d = e₃ ∙ ap (λ (x : List ℕ). wrote x 12 (bytes 2 0)) f₂ ∙ over-wrote (a ++ bytes 4 0) d (bytes 2 0) 12 (sym l₂) in
     let f₄ : d₄ ≡ over (a ++ bytes 4 0 ++ bytes 2 0 ++ bytes 2 index) d = e₄ ∙ ap (λ (x : List ℕ). wrote x 14 (bytes 2 index)) f₃ ∙ over-wrote (a ++ bytes 4 0 ++ bytes 2 0) d (bytes 2 index) 14 (sym l₃) in

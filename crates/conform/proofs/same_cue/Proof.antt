@@ -1,5 +1,6 @@
 use borrow.Author.Tests.{not-true, not-false}
-use Rattle.conform.proofs.Laws.{cue-unnamed, cue-other, cue-texts, in-records}
+use Rattle.records.proofs.Laws.{in-records}
+use Rattle.conform.proofs.Laws.{cue-unnamed, cue-other, cue-texts}
 use mathlib.Core.Bool.{true, false}
 use mathlib.Core.Path.{refl, sym, _∙_}
 use Rattle.conform.proofs.same_cue.Statement.{statement}

@@ -3,31 +3,31 @@ use Prim.Native.Nat.{ℕ, _+_}
 use mathlib.Core.Path.{ap, _∙_}
 use native.Mathlib.Omega.{arith}
 use Rattle.base.specs.Over.{wrote}
-use Rattle.records.proofs.Laws.{in-order}
+use Rattle.records.proofs.Laws.{in-records, in-order}
 use Rattle.cues.specs.Caption.{Caption}
 use Rattle.vtt_write.specs.Writing.{cueText}
-use Rattle.vtt_write.proofs.Laws.{record-at, pooled-is, pooled-size}
+use Rattle.vtt_write.proofs.Laws.{pooled-is, pooled-size}
 use borrow.Author.Needs.{needs}
 use Rattle.vtt_write.proofs.put_pooled.Statement.{statement}
 use Rattle.vtt_write.proofs.put_pooled.Tie as tie
 
 text-offset-requires : tie.Need-text-offset-requires
-text-offset-requires c κs = record-at _ _ (c .before .before .before .pre .1)
+text-offset-requires c κs = in-records _ _ (c .before .before .before .pre .1)
 
 settings-offset-requires : tie.Need-settings-offset-requires
-settings-offset-requires c κs = record-at _ _ (c .before .before .before .before .pre .1)
+settings-offset-requires c κs = in-records _ _ (c .before .before .before .before .pre .1)
 
 payload-offset-requires : tie.Need-payload-offset-requires
-payload-offset-requires c κs = record-at _ _ (c .before .before .before .before .before .pre .1)
+payload-offset-requires c κs = in-records _ _ (c .before .before .before .before .before .pre .1)
 
 texts-end-requires : tie.Need-texts-end-requires
-texts-end-requires c κs = record-at _ _ (c .before .before .before .before .before .before .pre .1)
+texts-end-requires c κs = in-records _ _ (c .before .before .before .before .before .before .pre .1)
 
 start-ms-requires : tie.Need-start-ms-requires
-start-ms-requires c κs = record-at _ _ (c .before .before .before .before .before .before .before .before .pre .1)
+start-ms-requires c κs = in-records _ _ (c .before .before .before .before .before .before .before .before .pre .1)
 
 end-ms-requires : tie.Need-end-ms-requires
-end-ms-requires c κs = record-at _ _ (c .before .before .before .before .before .before .before .before .before .pre .1)
+end-ms-requires c κs = in-records _ _ (c .before .before .before .before .before .before .before .before .before .pre .1)
 
 sub-put-cue : tie.Need-sub-put-cue
 sub-put-cue c = omega (arith, in-order (c .before .before .before .before .before .before .before .before .before .before .args .records .now) (c .before .before .before .before .before .before .before .before .before .before .args .i))
