@@ -1,10 +1,6 @@
 //! WebVTT files through the proved library: damaged in every byte, at the limits, long ones, and
 //! what becomes of a list that was read.
 
-use std::path::{Path, PathBuf};
-use std::process::Command;
-use std::{env, fs};
-
 use captions::wvtt::Track;
 use captions::{vtt, CueList};
 use captions_compare::Proved;
@@ -181,46 +177,4 @@ fn a_list_that_was_read_packs() {
         seen += list.len();
     }
     assert!(seen > 5000, "{seen}");
-}
-
-/// The example for files in an empty folder: status, output, and the files it wrote.
-fn run_example(file: &str) -> (Option<i32>, String, [Option<Vec<u8>>; 2]) {
-    let crates = Path::new(env!("CARGO_MANIFEST_DIR")).join("..");
-    let folder = PathBuf::from(env!("CARGO_TARGET_TMPDIR")).join("from_vtt");
-    fs::remove_dir_all(&folder).ok();
-    fs::create_dir(&folder).expect("a folder can be made");
-    let mut command = Command::new(env!("CARGO"));
-    command.args(["run", "--offline", "--quiet", "--example", "from_vtt"]);
-    if !cfg!(debug_assertions) {
-        command.arg("--release");
-    }
-    command
-        .arg("--manifest-path")
-        .arg(crates.join("captions/Cargo.toml"));
-    command.arg("--").arg(crates.join("..").join(file));
-    let output = command.current_dir(&folder).output().expect("cargo runs");
-    let written = ["cues.rec", "cues.pool"].map(|name| fs::read(folder.join(name)).ok());
-    let said = String::from_utf8(output.stdout).expect("text");
-    (output.status.code(), said, written)
-}
-
-#[test]
-fn the_example_runs() {
-    let file = include_bytes!("../../../examples/vtt/saws.vtt");
-    let list = vtt::read(file).expect("the file is good");
-    assert_eq!(list.len(), 7);
-    let (status, said, written) = run_example("examples/vtt/saws.vtt");
-    assert_eq!(status, Some(0));
-    assert_eq!(said, "7 cues: 168 bytes of records, 335 of pool\n");
-    assert_eq!(
-        written,
-        [list.records(), list.pool()].map(|b| Some(b.to_vec()))
-    );
-    let (status, said, written) = run_example("examples/vtt/style.vtt");
-    assert_eq!(status, Some(1));
-    assert_eq!(said, "refused 18 9\na STYLE or REGION block\n");
-    assert_eq!(written, [None, None]);
-    let (status, said, _) = run_example("rust/vectors/foreign/vtt/latin-1.vtt");
-    assert_eq!(status, Some(1));
-    assert_eq!(said, "refused 6 4\nbad text, byte 7\n");
 }

@@ -1,10 +1,6 @@
 //! WebVTT files that the proved library writes: at the limits, with every room, at many times, with
 //! damage in every byte, and what reading gives back.
 
-use std::fs;
-use std::path::{Path, PathBuf};
-use std::process::Command;
-
 use captions::{vtt, CueList, Fault, ListedCue};
 use captions_compare::Proved;
 use captions_harness::generate::vtt_file;
@@ -236,44 +232,4 @@ fn a_list_that_was_read_comes_back() {
         seen += list.len();
     }
     assert!(seen > 5000, "{seen}");
-}
-
-/// The example for files out in an empty folder: status, output, and the file it wrote.
-fn run_example(file: &str) -> (Option<i32>, String, Option<Vec<u8>>) {
-    let crates = Path::new(env!("CARGO_MANIFEST_DIR")).join("..");
-    let folder = PathBuf::from(env!("CARGO_TARGET_TMPDIR")).join("to_vtt");
-    fs::remove_dir_all(&folder).ok();
-    fs::create_dir(&folder).expect("a folder can be made");
-    let mut command = Command::new(env!("CARGO"));
-    command.args(["run", "--offline", "--quiet", "--example", "to_vtt"]);
-    if !cfg!(debug_assertions) {
-        command.arg("--release");
-    }
-    command
-        .arg("--manifest-path")
-        .arg(crates.join("captions/Cargo.toml"));
-    command.arg("--").arg(crates.join("..").join(file));
-    command.arg("out.vtt").current_dir(&folder);
-    let output = command.output().expect("cargo runs");
-    let said = String::from_utf8(output.stdout).expect("text");
-    (
-        output.status.code(),
-        said,
-        fs::read(folder.join("out.vtt")).ok(),
-    )
-}
-
-#[test]
-fn the_example_runs() {
-    let file = include_bytes!("../../../examples/vtt/saws.vtt");
-    let list = vtt::read(file).expect("the file is good");
-    let expected = vtt::write("WEBVTT", &list).expect("the list is good");
-    let (status, said, written) = run_example("examples/vtt/saws.vtt");
-    assert_eq!(status, Some(0));
-    assert_eq!(said, "7 cues, 574 bytes\nthe same cues\n");
-    assert_eq!(written, Some(expected));
-    let (status, said, written) = run_example("examples/vtt/style.vtt");
-    assert_eq!(status, Some(1));
-    assert_eq!(said, "refused 18 9\na STYLE or REGION block\n");
-    assert_eq!(written, None);
 }

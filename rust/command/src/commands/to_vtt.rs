@@ -1,0 +1,96 @@
+//! `captions to-vtt`.
+
+use std::ffi::{OsStr, OsString};
+
+use captions::limits::LARGEST_MS;
+use captions::{vtt, CueListRef, ListedCue};
+
+use super::pack::HEADER;
+use super::{warn, Command};
+use crate::args::Args;
+use crate::failure::Failure;
+use crate::files::{read_header, List, VTT_SCALE};
+use crate::output::{print, Outputs, STREAM};
+use crate::words;
+
+pub const COMMAND: Command = Command {
+    name: "to-vtt",
+    summary: "writes a list as a WebVTT file",
+    help: HELP,
+    run,
+};
+
+const HELP: &str = "\
+captions to-vtt LIST FILE [--header FILE]
+
+Writes a list as a WebVTT file: the header, an empty line, the cues. IDs are not written.
+A warning tells where reading the file gives something else: for a payload with a CR,
+settings with a blank at an end, a header with an empty line.
+
+  LIST           NAME for NAME.rec and NAME.pool, or a WebVTT file: FILE.vtt, - for one on
+                 standard input
+  FILE           the WebVTT file, - for standard output
+  --header FILE  the header: the header lines of a WebVTT file, or the configuration of a
+                 wvtt entry; else the header lines of LIST, or WEBVTT
+
+Example: captions to-vtt saws saws-again.vtt --header saws.entry
+";
+
+fn run(raw: &[OsString]) -> Result<(), Failure> {
+    let mut args = Args::parse(raw, &[], &["--header"])?;
+    let (from, to) = (args.operand("LIST")?, args.operand("FILE")?);
+    args.end()?;
+    let list = List::read(&from)?;
+    let file = vtt_file(&list, args.value("--header"))?;
+    let report = format!("{} cues, {} bytes\n", list.len(), file.len());
+    let mut outputs = Outputs::default();
+    outputs.add(&to, file)?;
+    outputs.commit()?;
+    if to == STREAM {
+        return Ok(());
+    }
+    print(report.as_bytes())
+}
+
+/// A list as a WebVTT file, behind the header that a file has, or the list's own. It warns where
+/// the file is not read as the same list.
+pub fn vtt_file(list: &List, header: Option<&OsStr>) -> Result<Vec<u8>, Failure> {
+    let header = match header {
+        Some(name) => read_header(name)?,
+        None => list.header.clone().unwrap_or(HEADER.to_vec()),
+    };
+    let (records, pool) = (&list.records, &list.pool);
+    let refused = |fault| words::writing(&header, list, &fault);
+    let mut file = vec![0; vtt::write_room(&header, records, pool).map_err(refused)?];
+    vtt::write_into(&header, records, pool, &mut file).map_err(refused)?;
+    if let Some(change) = change(list, &file) {
+        warn(change);
+    }
+    Ok(file)
+}
+
+/// What reading a written file gives that the list does not have.
+fn change(list: &List, file: &[u8]) -> Option<String> {
+    let again = match vtt::read(file) {
+        Ok(again) => again,
+        Err(refusal) => {
+            return Some(format!(
+                "this file is not read again: {}",
+                words::file(file, &refusal)
+            ))
+        }
+    };
+    let cues = CueListRef::read(VTT_SCALE, LARGEST_MS, &list.records, &list.pool).ok()?;
+    let (count, more) = (cues.len(), again.len());
+    if count != more {
+        return Some(format!(
+            "reading this file gives {more} cues, not {count}: the header holds some"
+        ));
+    }
+    let same = |cue: ListedCue, back: ListedCue| cue == ListedCue { id: cue.id, ..back };
+    let other = cues
+        .iter()
+        .zip(&again)
+        .position(|(cue, back)| !same(cue, back))?;
+    Some(format!("reading this file gives other texts for record {other}: a CR becomes LF, blanks at an end of settings go"))
+}

@@ -1,0 +1,69 @@
+//! `captions unpack`.
+
+use std::ffi::OsString;
+
+use captions::wvtt;
+
+use super::to_vtt::vtt_file;
+use super::Command;
+use crate::args::Args;
+use crate::failure::Failure;
+use crate::files::{is_vtt, List, TrackFiles};
+use crate::output::{print, Outputs, STREAM};
+use crate::time::Clock;
+use crate::words;
+
+pub const COMMAND: Command = Command {
+    name: "unpack",
+    summary: "unpacks a track into a list, and tells T",
+    help: HELP,
+    run,
+};
+
+const HELP: &str = "\
+captions unpack TRACK LIST --scale N [--header FILE]
+
+Unpacks a track and prints how many cues it has and T, its length.
+
+  TRACK          NAME for NAME.table and NAME.samples
+  LIST           NAME for NAME.rec and NAME.pool, or a WebVTT file: FILE.vtt, or - for
+                 standard output
+  --scale N      ticks a second, 1 to 1000000
+  --header FILE  for a WebVTT file, its header: the header lines of another, or the
+                 configuration of a wvtt entry; else WEBVTT
+
+A track whose cues lack IDs (vsid) cannot be unpacked; captions show track shows them.
+
+Example: captions unpack saws back --scale 1000
+";
+
+fn run(raw: &[OsString]) -> Result<(), Failure> {
+    let mut args = Args::parse(raw, &[], &["--scale", "--header"])?;
+    let (from, to) = (args.operand("TRACK")?, args.operand("LIST")?);
+    args.end()?;
+    let (scale, header) = (args.need_scale()?, args.value("--header"));
+    if header.is_some() && !is_vtt(&to) {
+        return Err(Failure::Usage("--header is for a WebVTT file".into()));
+    }
+    let track = TrackFiles::read(&from)?;
+    let unpacked = wvtt::unpack_to_vecs(scale, &track.table, &track.samples);
+    let refused = |refusal| words::unpacking(&track, scale, &refusal);
+    let (records, pool, t) = unpacked.map_err(refused)?;
+    let list = List {
+        records,
+        pool,
+        header: None,
+    };
+    let cues = list.len();
+    let mut outputs = Outputs::default();
+    if is_vtt(&to) {
+        outputs.add(&to, vtt_file(&list, header)?)?;
+    } else {
+        list.stage(&to, &mut outputs)?;
+    }
+    outputs.commit()?;
+    if to == STREAM {
+        return Ok(());
+    }
+    print(format!("{cues} cues, T {t} ms ({})\n", Clock(t.into())).as_bytes())
+}

@@ -1,0 +1,112 @@
+//! Why a text is bad.
+
+/// The rule that a text breaks.
+#[derive(Clone, Copy, Debug, PartialEq, Eq)]
+pub enum Rule {
+    /// Of identifiers, settings and `ctim`.
+    Line,
+    /// Of payloads.
+    Payload,
+    /// Of a `vttC`, or the header of a file.
+    Configuration,
+    /// Of a `vlab`.
+    Label,
+}
+
+const SIGNATURE: &[u8] = b"WEBVTT";
+
+/// Says why a text is bad at its offset: `the payload's byte 37 is not UTF-8`.
+pub fn bad_text(name: &str, rule: Rule, text: &[u8], offset: usize) -> String {
+    let what = match text.get(offset) {
+        Some(&byte) => bad_byte(rule, text, offset, byte),
+        None => return format!("the {name} {}", bad_end(rule, text)),
+    };
+    let own = if name.ends_with('s') { "'" } else { "'s" };
+    format!("the {name}{own} byte {offset} {what}")
+}
+
+/// Says that a text is too long: `the payload has 5000 bytes; at most 4095 are allowed`.
+pub fn too_long(name: &str, bytes: usize, limit: usize) -> String {
+    let has = if name.ends_with('s') { "have" } else { "has" };
+    format!("the {name} {has} {bytes} bytes; at most {limit} are allowed")
+}
+
+fn bad_byte(rule: Rule, text: &[u8], offset: usize, byte: u8) -> &'static str {
+    if rule == Rule::Configuration && SIGNATURE.get(offset).is_some_and(|&letter| letter != byte) {
+        return "is not that of WEBVTT, with which it begins";
+    }
+    let ends_arrow = text[..offset].ends_with(b"--") && byte == b'>';
+    match (rule, byte) {
+        (Rule::Line | Rule::Payload, b'>') if ends_arrow => "ends a -->",
+        (Rule::Line | Rule::Payload, 0) => "is a zero byte",
+        (Rule::Line, b'\r' | b'\n') => "is a line end",
+        (Rule::Payload, b'\r' | b'\n') if offset == 0 => "is a line end in front",
+        (Rule::Payload, b'\r' | b'\n') => "ends an empty line",
+        _ => "is not UTF-8",
+    }
+}
+
+/// What a text lacks that could still become right.
+fn bad_end(rule: Rule, text: &[u8]) -> &'static str {
+    match text.last() {
+        _ if rule == Rule::Configuration && text.len() < SIGNATURE.len() => {
+            "does not begin with WEBVTT"
+        }
+        Some(b'\r' | b'\n') => "ends in a line end",
+        _ => "ends within a character",
+    }
+}
+
+#[cfg(test)]
+mod tests {
+    use super::*;
+    use captions::wvtt::{judge_configuration, judge_identifier, judge_label, judge_payload};
+
+    /// What is said about a text that the library refuses.
+    fn said(rule: Rule, text: &[u8]) -> String {
+        let judged = match rule {
+            Rule::Line => judge_identifier(text),
+            Rule::Payload => judge_payload(text),
+            Rule::Configuration => judge_configuration(text),
+            Rule::Label => judge_label(text),
+        };
+        bad_text("text", rule, text, judged.expect_err("a bad text").offset)
+    }
+
+    #[test]
+    fn each_fault_has_its_words() {
+        use Rule::*;
+        for (rule, text, words) in [
+            (Line, &b"ab\xff"[..], "the text's byte 2 is not UTF-8"),
+            (Line, b"a-->", "the text's byte 3 ends a -->"),
+            (Line, b"a\nb", "the text's byte 1 is a line end"),
+            (Line, b"\0", "the text's byte 0 is a zero byte"),
+            (Line, b"a\xc3", "the text ends within a character"),
+            (Payload, b"\xed\xa0\x80", "the text's byte 1 is not UTF-8"),
+            (Payload, b"\n", "the text's byte 0 is a line end in front"),
+            (Payload, b"a\n\nb", "the text's byte 2 ends an empty line"),
+            (Payload, b"a\r\r", "the text's byte 2 ends an empty line"),
+            (Payload, b"a\r\n", "the text ends in a line end"),
+            (Payload, b"-->", "the text's byte 2 ends a -->"),
+            (Payload, b"a\0", "the text's byte 1 is a zero byte"),
+            (Configuration, b"WEB", "the text does not begin with WEBVTT"),
+            (Configuration, b"", "the text does not begin with WEBVTT"),
+            (
+                Configuration,
+                b"webvtt",
+                "the text's byte 0 is not that of WEBVTT, with which it begins",
+            ),
+            (Configuration, b"WEBVTT\n", "the text ends in a line end"),
+            (
+                Configuration,
+                b"WEBVTT\x80",
+                "the text's byte 6 is not UTF-8",
+            ),
+            (Label, b"x\r", "the text ends in a line end"),
+            (Label, b"\xf0\x9f", "the text ends within a character"),
+            (Label, b"\xf5", "the text's byte 0 is not UTF-8"),
+        ] {
+            assert_eq!(said(rule, text), words);
+        }
+    }
+}

@@ -1,0 +1,409 @@
+//! Tracks.
+
+use std::collections::HashMap;
+
+use captions::limits::{LARGEST_MS, LARGEST_SCALE, MOST_CUES, MOST_SAMPLES, ROW_BYTES};
+use captions::wvtt::{judge_sample, judge_track, Cue, Track, TrackSample};
+use captions::{milliseconds, Reason, Refusal};
+
+use super::list::in_times;
+use super::wvtt::in_sample;
+use crate::bytes::be32;
+use crate::files::TrackFiles;
+use crate::time::Clock;
+
+/// The kind of a refusal's place in a track, and what is wrong there.
+pub fn in_track(track: &TrackFiles, refusal: &Refusal) -> (&'static str, String) {
+    let rows = track.table.chunks_exact(ROW_BYTES);
+    let left_over = rows.remainder().len();
+    if left_over != 0 {
+        let what = format!("the last row of the table has {left_over} bytes of its {ROW_BYTES}");
+        return ("place", what);
+    }
+    if rows.len() > MOST_SAMPLES {
+        return (
+            "place",
+            format!("the table has more than {MOST_SAMPLES} rows"),
+        );
+    }
+    let row = rows.clone().nth(refusal.place);
+    let before = rows.take(refusal.place).map(|row| u64::from(be32(row, 4)));
+    let from = before.sum::<u64>() as usize;
+    let what = row.map_or("bytes are left over behind the last sample".into(), |row| {
+        in_row(&track.samples, from, row, refusal)
+    });
+    ("sample", what)
+}
+
+/// What is wrong with the sample of a row, which begins at a byte of the samples.
+fn in_row(samples: &[u8], from: usize, row: &[u8], refusal: &Refusal) -> String {
+    let (duration, size) = (be32(row, 0), be32(row, 4));
+    if duration == 0 || size == 0 {
+        let what = if duration == 0 { "duration" } else { "size" };
+        return format!("its {what} is 0");
+    }
+    let there = samples.len().saturating_sub(from);
+    let Some(sample) = samples.get(from..from + size as usize) else {
+        return format!("it has {size} bytes by the table, and {there} are there");
+    };
+    match judge_sample(sample) {
+        Err(inner) => format!("at its byte {}, {}", inner.place, in_sample(sample, &inner)),
+        Ok(()) => refusal.reason.to_string(),
+    }
+}
+
+/// The kind of a refusal's place in unpacking, and what is wrong there.
+pub fn in_unpacking(track: &TrackFiles, scale: u32, refusal: &Refusal) -> (&'static str, String) {
+    if !(1..=LARGEST_SCALE).contains(&scale) {
+        return ("place", in_times(scale, 1));
+    }
+    if judge_track(&track.table, &track.samples).is_err() {
+        return in_track(track, refusal);
+    }
+    let unknown = ("place", refusal.reason.to_string());
+    let Ok(whole) = Track::from_parts(track.table.clone(), track.samples.clone()) else {
+        return unknown;
+    };
+    if refusal.reason == Reason::BadTime {
+        return in_unpacked_times(&whole, scale, refusal.place);
+    }
+    let past = Past::before(&whole, refusal.place);
+    let Some(sample) = whole.samples().nth(refusal.place) else {
+        return unknown;
+    };
+    let cues: Vec<Cue> = sample.cues().collect();
+    let found = (0..cues.len()).find_map(|index| in_cue(&past, &cues, index, refusal));
+    ("sample", found.unwrap_or(unknown.1))
+}
+
+/// A cue as the samples so far have it.
+struct Seen<'a> {
+    cue: Cue<'a>,
+    /// The last sample that holds it.
+    sample: usize,
+    start: u64,
+    end: u64,
+}
+
+/// The cues before a sample, in order of first appearance, and where each ID stands among them.
+#[derive(Default)]
+struct Past<'a> {
+    cues: Vec<Seen<'a>>,
+    places: HashMap<u32, usize>,
+}
+
+impl<'a> Past<'a> {
+    fn before(track: &'a Track, end: usize) -> Self {
+        let mut past = Past::default();
+        for (index, sample) in track.samples().enumerate().take(end) {
+            for cue in sample.cues() {
+                past.see(index, &sample, cue);
+            }
+        }
+        past
+    }
+
+    fn see(&mut self, index: usize, sample: &TrackSample<'a>, cue: Cue<'a>) {
+        let (start, end) = (
+            sample.start_tick,
+            sample.start_tick + u64::from(sample.duration),
+        );
+        let place = *self
+            .places
+            .entry(cue.id.unwrap_or(0))
+            .or_insert(self.cues.len());
+        match self.cues.get_mut(place) {
+            Some(seen) => (seen.sample, seen.end) = (index, end),
+            None => self.cues.push(Seen {
+                cue,
+                sample: index,
+                start,
+                end,
+            }),
+        }
+    }
+
+    fn get(&self, id: u32) -> Option<&Seen<'a>> {
+        self.places.get(&id).map(|&place| &self.cues[place])
+    }
+
+    /// Where a cue of a sample stands in order of first appearance; a new one stands last.
+    fn rank(&self, cue: &Cue) -> usize {
+        let place = cue.id.and_then(|id| self.places.get(&id));
+        place.copied().unwrap_or(self.cues.len())
+    }
+}
+
+/// What a refusal says about a cue of a sample; nothing, if it is about another.
+fn in_cue(past: &Past, cues: &[Cue], index: usize, refusal: &Refusal) -> Option<String> {
+    let cue = &cues[index];
+    let Some(id) = cue.id else {
+        let none = refusal.reason == Reason::NoId;
+        return none.then(|| format!("its cue {index}, counted from 0, has no ID (vsid)"));
+    };
+    let earlier = &cues[..index];
+    let known = past.get(id);
+    match refusal.reason {
+        Reason::IdTwice => {
+            let twice = earlier.iter().any(|other| other.id == cue.id);
+            twice.then(|| format!("the ID {id} stands twice in it"))
+        }
+        Reason::IdAfterGap => {
+            let known = known.filter(|seen| seen.sample + 1 < refusal.place)?;
+            Some(format!(
+                "the ID {id} comes back; the last sample with it is {}",
+                known.sample
+            ))
+        }
+        Reason::OtherTexts => {
+            let known = known.filter(|seen| seen.cue != *cue)?;
+            let name = changed_text(&known.cue, cue);
+            Some(format!(
+                "the cue with ID {id} has another {name} than in sample {}",
+                known.sample
+            ))
+        }
+        Reason::BadOrder => {
+            let older = earlier
+                .last()
+                .filter(|before| past.rank(before) > past.rank(cue))?;
+            let newer = older.id.unwrap_or(0);
+            Some(format!(
+                "the cue with ID {id} stands behind a newer one, with ID {newer}"
+            ))
+        }
+        Reason::PastLimit => Some(format!(
+            "with it the track has more than {MOST_CUES} cues, the most that are unpacked"
+        )),
+        _ => None,
+    }
+}
+
+/// The first text in which two cues differ.
+pub fn changed_text(cue: &Cue, other: &Cue) -> &'static str {
+    if cue.identifier != other.identifier {
+        "identifier"
+    } else if cue.settings != other.settings {
+        "settings"
+    } else {
+        "payload"
+    }
+}
+
+/// What is wrong with the times of a track that is unpacked: a record's, or T.
+fn in_unpacked_times(track: &Track, scale: u32, place: usize) -> (&'static str, String) {
+    let past = Past::before(track, track.len());
+    let ms = |tick| milliseconds(scale, tick).unwrap_or(u64::MAX);
+    let last = Clock(LARGEST_MS.into());
+    let Some(seen) = past.cues.get(place) else {
+        let ticks: u64 = track
+            .samples()
+            .map(|sample| u64::from(sample.duration))
+            .sum();
+        let t = Clock(ms(ticks));
+        let what = match ticks {
+            0 => "the track has no samples".into(),
+            _ if ms(ticks) > u64::from(LARGEST_MS) => {
+                format!("the track lasts {t}; the largest time is {last}")
+            }
+            _ => format!("the track lasts {ticks} ticks; at most {} fit", u32::MAX),
+        };
+        return ("place", what);
+    };
+    let (start, end) = (ms(seen.start), ms(seen.end));
+    let id = seen.cue.id.unwrap_or(0);
+    let what = if start == end {
+        format!(
+            "the cue with ID {id} lasts from tick {} to {}, within one millisecond",
+            seen.start, seen.end
+        )
+    } else {
+        format!(
+            "the cue with ID {id} ends at {}; the largest time is {last}",
+            Clock(end)
+        )
+    };
+    ("record", what)
+}
+
+#[cfg(test)]
+mod tests {
+    use super::*;
+
+    /// A cue box: an ID if it has one, and a payload.
+    fn cue(id: Option<u32>, payload: &str) -> Vec<u8> {
+        let mut body = Vec::new();
+        if let Some(id) = id {
+            body.extend(b"\0\0\0\x0Cvsid");
+            body.extend(id.to_be_bytes());
+        }
+        body.extend((8 + payload.len() as u32).to_be_bytes());
+        body.extend(b"payl");
+        body.extend(payload.as_bytes());
+        let mut cue = (8 + body.len() as u32).to_be_bytes().to_vec();
+        cue.extend(b"vttc");
+        cue.extend(body);
+        cue
+    }
+
+    /// A track of samples with these durations.
+    fn track(samples: &[(u32, &[u8])]) -> TrackFiles {
+        let row = |&(duration, bytes): &(u32, &[u8])| {
+            [duration, bytes.len() as u32]
+                .map(u32::to_be_bytes)
+                .concat()
+        };
+        let table = samples.iter().flat_map(row).collect();
+        let samples = samples
+            .iter()
+            .flat_map(|(_, bytes)| bytes.to_vec())
+            .collect();
+        TrackFiles { table, samples }
+    }
+
+    /// What is said about a track that the library refuses to judge or to unpack.
+    fn said(track: &TrackFiles, scale: u32) -> String {
+        let (refusal, (kind, what)) = match judge_track(&track.table, &track.samples) {
+            Err(refusal) => (refusal, in_track(track, &refusal)),
+            Ok(()) => {
+                let room = captions::wvtt::unpack_room(scale, &track.table, &track.samples);
+                let refusal = room.expect_err("a bad track");
+                (refusal, in_unpacking(track, scale, &refusal))
+            }
+        };
+        format!(
+            "{} {kind} {}: {what}",
+            refusal.reason.number(),
+            refusal.place
+        )
+    }
+
+    const EMPTY: &[u8] = b"\0\0\0\x08vtte";
+
+    #[test]
+    fn tables() {
+        let mut cut = track(&[(1, EMPTY)]);
+        cut.table.pop();
+        assert_eq!(
+            said(&cut, 1000),
+            "1 place 0: the last row of the table has 7 bytes of its 8"
+        );
+        let many = track(&[(1, EMPTY); 65_537]);
+        assert_eq!(
+            said(&many, 1000),
+            "9 place 0: the table has more than 65536 rows"
+        );
+        let mut long = track(&[(1, EMPTY), (1, EMPTY)]);
+        assert_eq!(
+            said(&track(&[(1, EMPTY), (0, EMPTY)]), 1000),
+            "10 sample 1: its duration is 0"
+        );
+        assert_eq!(
+            said(&track(&[(1, EMPTY), (1, b"")]), 1000),
+            "4 sample 1: its size is 0"
+        );
+        long.samples.pop();
+        assert_eq!(
+            said(&long, 1000),
+            "1 sample 1: it has 8 bytes by the table, and 7 are there"
+        );
+        long.samples.extend(b"e1");
+        assert_eq!(
+            said(&long, 1000),
+            "2 sample 2: bytes are left over behind the last sample"
+        );
+    }
+
+    #[test]
+    fn samples() {
+        let bad = said(&track(&[(1, EMPTY), (1, b"\0\0\0\x04vtte")]), 1000);
+        assert!(bad.starts_with("2 sample 1: at its byte 0, "), "{bad}");
+    }
+
+    #[test]
+    fn unpacking() {
+        let [one, two, other, none] = [
+            cue(Some(1), "a"),
+            cue(Some(2), "b"),
+            cue(Some(1), "c"),
+            cue(None, "d"),
+        ];
+        let (both, turned) = ([&one[..], &two].concat(), [&two[..], &one].concat());
+        let twice = [&one[..], &one].concat();
+        for (samples, words) in [
+            (
+                vec![(1, EMPTY), (1, &none)],
+                "17 sample 1: its cue 0, counted from 0, has no ID (vsid)",
+            ),
+            (
+                vec![(1, &twice)],
+                "12 sample 0: the ID 1 stands twice in it",
+            ),
+            (
+                vec![(1, &one), (1, EMPTY), (1, &one)],
+                "13 sample 2: the ID 1 comes back; the last sample with it is 0",
+            ),
+            (
+                vec![(1, &one), (1, &other)],
+                "14 sample 1: the cue with ID 1 has another payload than in sample 0",
+            ),
+            (
+                vec![(1, &both), (1, &turned)],
+                "11 sample 1: the cue with ID 1 stands behind a newer one, with ID 2",
+            ),
+        ] {
+            assert_eq!(said(&track(&samples), 1000), words);
+        }
+        let mut turned = [&two[..], &one].concat();
+        turned.extend(cue(Some(3), ""));
+        let words = "11 sample 1: the cue with ID 1 stands behind a newer one, with ID 2";
+        assert_eq!(said(&track(&[(1, &one), (1, &turned)]), 1000), words);
+    }
+
+    #[test]
+    fn times() {
+        let (one, two) = (cue(Some(1), "a"), cue(Some(2), "b"));
+        assert_eq!(
+            said(&track(&[]), 1000),
+            "10 place 0: the track has no samples"
+        );
+        let one_ms = said(&track(&[(1000, &one), (100, &two), (900, &one)]), 1_000_000);
+        assert_eq!(
+            one_ms,
+            "13 sample 2: the ID 1 comes back; the last sample with it is 0"
+        );
+        let within = said(
+            &track(&[(1001, EMPTY), (100, &two), (900, EMPTY)]),
+            1_000_000,
+        );
+        assert_eq!(
+            within,
+            "10 record 0: the cue with ID 2 lasts from tick 1001 to 1101, within one millisecond"
+        );
+        let late = said(&track(&[(400_000_000, EMPTY), (1, &one)]), 1000);
+        assert_eq!(late, "10 record 0: the cue with ID 1 ends at 111:06:40.001; the largest time is 99:59:59.999");
+        let long = said(&track(&[(400_000_000, EMPTY)]), 1000);
+        assert_eq!(
+            long,
+            "10 place 0: the track lasts 111:06:40.000; the largest time is 99:59:59.999"
+        );
+        let long = said(&track(&[(u32::MAX, EMPTY), (1, EMPTY)]), 1_000_000);
+        assert_eq!(
+            long,
+            "10 place 0: the track lasts 4294967296 ticks; at most 4294967295 fit"
+        );
+        assert_eq!(
+            said(&track(&[(1, EMPTY)]), 0),
+            "10 place 0: the scale is 0 ticks a second; it is 1 to 1000000"
+        );
+    }
+
+    #[test]
+    fn too_many_cues() {
+        let cues: Vec<Vec<u8>> = (0..1025).map(|id| cue(Some(id), "")).collect();
+        let samples: Vec<(u32, &[u8])> = cues.iter().map(|cue| (1, &cue[..])).collect();
+        let words =
+            "9 sample 1024: with it the track has more than 1024 cues, the most that are unpacked";
+        assert_eq!(said(&track(&samples), 1000), words);
+    }
+}

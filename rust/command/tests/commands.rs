@@ -1,0 +1,416 @@
+//! Each command and each exit status.
+
+mod common;
+
+use captions::wvtt::{Entry, Track};
+use captions::{vtt, CueList, ListedCue};
+use common::{list, saws, Folder};
+
+const CUE: ListedCue = ListedCue {
+    id: 7,
+    start_ms: 0,
+    end_ms: 1000,
+    identifier: "",
+    settings: "",
+    payload: "Hi",
+};
+
+const COMMANDS: [&str; 7] = [
+    "pack", "unpack", "check", "judge", "show", "from-vtt", "to-vtt",
+];
+
+#[test]
+fn each_command_has_help_with_an_example() {
+    let folder = Folder::new();
+    let all = folder.run("--help").done();
+    assert_eq!(folder.run("help").done(), all);
+    for command in COMMANDS {
+        assert!(all.contains(&format!("\n  {command} ")), "{command}");
+        let help = folder.run(&format!("{command} --help")).done();
+        assert!(help.starts_with(&format!("captions {command} ")), "{help}");
+        assert!(
+            help.contains(&format!("\nExample: captions {command} ")),
+            "{help}"
+        );
+        assert!(
+            help.lines().all(|line| line.chars().count() <= 90),
+            "{help}"
+        );
+        assert_eq!(folder.run(&format!("{command} a b c --help")).done(), help);
+    }
+    let version = format!("captions {}\n", captions::VERSION);
+    assert_eq!(folder.run("--version").done(), version);
+}
+
+#[test]
+fn a_command_line_that_is_not_understood_is_trouble() {
+    let folder = Folder::with_saws();
+    for line in [
+        "",
+        "--x",
+        "pac",
+        "pack",
+        "pack saws.vtt",
+        "pack saws.vtt a",
+        "pack saws.vtt a --scale 1000",
+        "pack saws.vtt a --scale x --t 1",
+        "pack saws.vtt a --scale 1 --t -1",
+        "pack saws.vtt a --scale",
+        "pack saws.vtt a b --scale 1000 --t 20000",
+        "pack saws.vtt a --scale 1000 --t 20000 --x",
+        "pack saws.vtt a --scale 1000 --t 20000 --t 20000",
+        "pack saws.vtt - --scale 1000 --t 20000",
+        "pack saws.vtt a --scale=4294967296 --t=1",
+        "unpack a",
+        "unpack - b --scale 1000",
+        "unpack a b --scale 1000 --header saws.vtt",
+        "check saws.vtt",
+        "check saws.vtt - --scale 1 --t 1",
+        "judge",
+        "judge saws.vtt",
+        "judge file saws.vtt",
+        "judge list saws.vtt",
+        "judge tx3g saws.vtt",
+        "judge vtt saws.vtt saws.vtt",
+        "judge vtt saws.vtt --t 1",
+        "judge tx3g - -",
+        "from-vtt saws.vtt",
+        "from-vtt saws.vtt -",
+        "from-vtt saws.vtt a.vtt",
+        "to-vtt saws.vtt",
+    ] {
+        let said = folder.run(line).trouble();
+        assert!(said.contains("--help"), "{line}: {said}");
+        assert_eq!(folder.names(), ["saws.vtt"], "{line}");
+    }
+}
+
+#[test]
+fn a_list_becomes_a_track_and_the_track_is_checked() {
+    let folder = Folder::with_saws();
+    let packed = folder
+        .run("pack saws.vtt saws --scale 1000 --t 00:00:20.000")
+        .done();
+    let track = Track::pack(1000, 20_000, &saws()).expect("a good list");
+    assert_eq!(folder.get("saws.table"), track.table());
+    assert_eq!(folder.get("saws.samples"), track.sample_bytes());
+    let bytes = folder.get("saws.entry");
+    let entry = Entry::read(&bytes).expect("a good entry");
+    let header = "WEBVTT - Table saw, first week\nKind: captions\nLanguage: en";
+    assert_eq!(
+        (entry.configuration, entry.label),
+        (header, Some("saws.vtt"))
+    );
+    assert_eq!(
+        packed,
+        "7 cues in 10 samples: 80 bytes of table, 748 of samples, 98 of entry\n"
+    );
+    assert_eq!(
+        folder.names(),
+        ["saws.entry", "saws.samples", "saws.table", "saws.vtt"]
+    );
+
+    let check = "check saws.vtt saws --scale 1000 --t 20000";
+    assert_eq!(folder.run(check).done(), "accepted: 7 cues in 10 samples\n");
+    assert_eq!(
+        folder.run(&check.replace(" saws ", " saws.table ")).done(),
+        "accepted: 7 cues in 10 samples\n"
+    );
+    let mut samples = folder.get("saws.samples");
+    let at = samples
+        .windows(4)
+        .position(|part| part == b"[saw")
+        .expect("its text");
+    samples[at + 1] = b'S';
+    folder.put("saws.samples", &samples);
+    assert_eq!(
+        folder.run(check).refused(),
+        "refused 16 at sample 4: at tick 8750 (00:00:08.750) the cue with ID 3 has another payload: \
+         from its byte 1 on \"Saw starts]\", not \"saw starts]\"\n"
+    );
+    samples[at + 1] = 0xff;
+    folder.put("saws.samples", &samples);
+    let said = folder.run(check).refused();
+    assert!(
+        said.starts_with("refused 6 at sample 4: ")
+            && said.contains("payload's byte 1 is not UTF-8"),
+        "{said}"
+    );
+}
+
+#[test]
+fn packing_takes_records_a_label_and_a_header() {
+    let folder = Folder::new();
+    folder.put_list("one", &list(&[CUE]));
+    let line = "pack one track --scale 90000 --t 1000";
+    folder.run(line).done();
+    assert_eq!(folder.get("track.table"), b"\0\x01\x5F\x90\0\0\0\x1E");
+    let entry = |folder: &Folder| {
+        let bytes = folder.get("track.entry");
+        let entry = Entry::read(&bytes).expect("a good entry");
+        (
+            entry.configuration.to_owned(),
+            entry.label.map(str::to_owned),
+        )
+    };
+    assert_eq!(entry(&folder), ("WEBVTT".into(), Some("one".into())));
+    folder.put(
+        "head.vtt",
+        "\u{feff}WEBVTT x\r\ny\r\n\r\n00:00.000 --> 00:01.000\r\n",
+    );
+    folder
+        .run(&format!("{line} --header head.vtt --label urn:x"))
+        .done();
+    assert_eq!(
+        entry(&folder),
+        ("WEBVTT x\r\ny".into(), Some("urn:x".into()))
+    );
+    folder
+        .run("pack one.rec again.table --scale=90000 --t=1000 --header track.entry")
+        .done();
+    assert_eq!(folder.get("again.table"), folder.get("track.table"));
+    let from_entry = Entry::read(&folder.get("again.entry"))
+        .expect("a good entry")
+        .configuration
+        .len();
+    assert_eq!(from_entry, "WEBVTT x\r\ny".len());
+    folder.put("bad.vtt", b"WEBVTT \xe9x\n");
+    let said = folder.run(&format!("{line} --header bad.vtt")).refused();
+    assert_eq!(
+        said,
+        "refused 6 at place 0: the header's byte 8 is not UTF-8\n"
+    );
+    let label = folder.run_with(
+        [
+            "pack", "one", "x", "--scale", "1000", "--t", "1000", "--label", "a\n",
+        ],
+        b"",
+    );
+    assert_eq!(
+        label.refused(),
+        "refused 6 at place 1: the label ends in a line end\n"
+    );
+    assert!(!folder.path("x.table").exists());
+}
+
+#[test]
+fn standard_input_is_a_file() {
+    let folder = Folder::with_saws();
+    let saws = folder.get("saws.vtt");
+    let run = |line: &str| folder.run_with(line.split(' '), &saws);
+    run("pack - track --scale 1000 --t 20000").done();
+    assert_eq!(
+        Entry::read(&folder.get("track.entry"))
+            .expect("a good entry")
+            .label,
+        Some("captions")
+    );
+    run("check - track --scale 1000 --t 20000").done();
+    run("from-vtt - list").done();
+    run("judge vtt -").done();
+    run("judge list - --scale 1000 --t 20000").done();
+    let written = run("to-vtt - -").done();
+    assert!(
+        written.starts_with("WEBVTT - Table saw, first week\nKind: captions\nLanguage: en\n\n1\n")
+    );
+    let unpacked = folder
+        .run("unpack track - --scale 1000 --header track.entry")
+        .done();
+    assert_eq!(unpacked, written);
+    let sample = b"\0\0\0\x08vtte";
+    assert_eq!(
+        folder.run_with(["judge", "sample", "-"], sample).done(),
+        "no fault\n"
+    );
+    assert_eq!(
+        folder
+            .run_with(["judge", "entry", "-"], &folder.get("track.entry"))
+            .done(),
+        "no fault\n"
+    );
+}
+
+#[test]
+fn a_packed_list_comes_back() {
+    let folder = Folder::with_saws();
+    assert_eq!(
+        folder.run("from-vtt saws.vtt list").done(),
+        "7 cues: 168 bytes of records, 335 of pool\n"
+    );
+    folder.run("pack list track --scale 90000 --t 20000").done();
+    assert_eq!(
+        folder.run("unpack track back --scale 90000").done(),
+        "7 cues, T 20000 ms (00:00:20.000)\n"
+    );
+    assert_eq!(folder.get("back.rec"), folder.get("list.rec"));
+    assert_eq!(folder.get("back.pool"), folder.get("list.pool"));
+    folder.run("unpack track back.vtt --scale 90000").done();
+    let again = vtt::read(&folder.get("back.vtt")).expect("a good file");
+    assert_eq!(
+        (again.records(), again.pool()),
+        (saws().records(), saws().pool())
+    );
+    assert_eq!(
+        folder.run("to-vtt back out.vtt").done(),
+        "7 cues, 574 bytes\n"
+    );
+    assert_eq!(folder.get("out.vtt"), folder.get("back.vtt"));
+}
+
+#[test]
+fn refusals_name_number_place_and_reason() {
+    let folder = Folder::new();
+    let mut cues = list(&[
+        CUE,
+        ListedCue {
+            id: 8,
+            payload: "fine, b\u{fc}t",
+            ..CUE
+        },
+    ])
+    .into_parts();
+    let at = cues.1.len() - 2;
+    cues.1[at] = b'-';
+    folder.put("bad.rec", &cues.0);
+    folder.put("bad.pool", &cues.1);
+    let words = "refused 6 at record 1: the payload's byte 8 is not UTF-8\n";
+    for line in [
+        "pack bad x --scale 1000 --t 1000",
+        "judge list bad --scale 1000 --t 1000",
+        "to-vtt bad x.vtt",
+    ] {
+        assert_eq!(folder.run(line).refused(), words, "{line}");
+    }
+    folder.put("style.vtt", "WEBVTT\n\nSTYLE\nx\n");
+    for line in [
+        "from-vtt style.vtt x",
+        "pack style.vtt x --scale 1 --t 1",
+        "judge vtt style.vtt",
+    ] {
+        let words = "refused 18 at line 3: a STYLE block, which is not read\n";
+        assert_eq!(folder.run(line).refused(), words, "{line}");
+    }
+    folder.put("t.table", [0, 0, 0, 1, 0, 0, 0, 8]);
+    folder.put("t.samples", b"\0\0\0\x08vttc");
+    let said = folder.run("unpack t x --scale 1000").refused();
+    assert!(
+        said.starts_with("refused 4 at sample 0: at its byte 0, "),
+        "{said}"
+    );
+    assert!(folder
+        .run("judge track t")
+        .refused()
+        .starts_with("refused 4 at sample 0: "));
+    assert!(folder
+        .run("judge sample t.samples")
+        .refused()
+        .starts_with("refused 4 at byte 0: "));
+    assert!(folder
+        .run("judge entry t.samples")
+        .refused()
+        .starts_with("refused 1 at byte 0: "));
+    assert!(folder
+        .run("judge tx3g t.samples t.samples")
+        .refused()
+        .starts_with("refused 1 at byte 0: "));
+    assert_eq!(
+        folder.names(),
+        ["bad.pool", "bad.rec", "style.vtt", "t.samples", "t.table"]
+    );
+}
+
+#[test]
+fn a_very_long_sample_is_a_warning() {
+    let folder = Folder::new();
+    folder.put_list("none", &CueList::new());
+    let run = folder.run("pack none long --scale 1000000 --t 2147484");
+    assert_eq!(run.status, Some(0));
+    assert_eq!(
+        run.err,
+        "warning: sample 0 lasts 2147484000 ticks, 2^31 or more, which players misread; a smaller scale helps\n"
+    );
+    assert_eq!(folder.get("long.table"), b"\x80\0\x01\x60\0\0\0\x08");
+    folder
+        .run("check none long --scale 1000000 --t 2147484")
+        .done();
+    folder
+        .run("pack none short --scale 1000000 --t 2147483")
+        .done();
+}
+
+#[test]
+fn a_file_that_does_not_come_back_is_a_warning() {
+    let folder = Folder::new();
+    let warned = |cue: ListedCue, header: &str| {
+        folder.put_list("list", &list(&[CUE, ListedCue { id: 8, ..cue }]));
+        folder.put("head", header);
+        let run = folder.run("to-vtt list out.vtt --header head");
+        assert_eq!(run.status, Some(0));
+        run.err
+    };
+    assert_eq!(warned(CUE, "WEBVTT x"), "");
+    let other = "warning: reading this file gives other texts for record 1: a CR becomes LF, blanks at an end of \
+                 settings go\n";
+    assert_eq!(
+        warned(
+            ListedCue {
+                payload: "a\rb",
+                ..CUE
+            },
+            "WEBVTT"
+        ),
+        other
+    );
+    assert_eq!(
+        warned(
+            ListedCue {
+                settings: " a",
+                ..CUE
+            },
+            "WEBVTT"
+        ),
+        other
+    );
+    let bad = warned(CUE, "WEBVTTx");
+    assert!(
+        bad.starts_with("warning: this file is not read again: refused 19 at line 1: "),
+        "{bad}"
+    );
+}
+
+#[test]
+fn what_is_printed_of_the_input_is_escaped() {
+    let folder = Folder::new();
+    let hostile = "\u{1b}[2J\u{202e}\u{9b}31m";
+    folder.put("a.vtt", format!("WEBVTT\n\n{hostile} --> 1\n"));
+    folder.put("b.vtt", format!("{hostile}\n"));
+    folder.put_list("list", &list(&[CUE]));
+    folder.run("pack list track --scale 1000 --t 1000").done();
+    folder.put_list(
+        "other",
+        &list(&[ListedCue {
+            payload: hostile,
+            ..CUE
+        }]),
+    );
+    for args in [
+        vec!["judge", "vtt", "a.vtt"],
+        vec!["judge", "vtt", "b.vtt"],
+        vec!["check", "other", "track", "--scale", "1000", "--t", "1000"],
+        vec!["judge", "vtt", hostile],
+        vec![hostile],
+        vec!["judge", hostile, "x"],
+        vec!["pack", "list", "x", "--scale", hostile, "--t", "1"],
+        vec!["pack", "list", "x", hostile],
+    ] {
+        let run = folder.run_with(&args, b"");
+        assert!(run.status != Some(0) && run.out.is_empty(), "{run:?}");
+        let plain = |letter: char| letter == '\n' || !letter.is_control() && letter != '\u{202e}';
+        assert!(run.err.chars().all(plain), "{:?}", run.err);
+        assert!(
+            run.err.contains("\\u{1b}[2J\\u{202e}\\u{9b}31m"),
+            "{:?}",
+            run.err
+        );
+    }
+}
