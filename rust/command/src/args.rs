@@ -98,7 +98,7 @@ impl Args {
 
     /// The scale, in ticks a second.
     pub fn scale(&self) -> Result<Option<u32>, Failure> {
-        self.number("--scale", "a number of ticks a second", |text| {
+        self.number("--scale", "a whole number below 2^32", |text| {
             // Digits only: `parse` would take a sign.
             let plain = text.bytes().all(|byte| byte.is_ascii_digit());
             plain.then(|| text.parse().ok())?
@@ -107,7 +107,7 @@ impl Args {
 
     /// The timeline, in milliseconds.
     pub fn t(&self) -> Result<Option<u32>, Failure> {
-        self.number("--t", "milliseconds or hh:mm:ss.mmm", parse_ms)
+        self.number("--t", "milliseconds below 2^32, or hh:mm:ss.mmm", parse_ms)
     }
 
     /// The scale, which has to be there.

@@ -8,18 +8,19 @@ use std::path::Path;
 use std::sync::atomic::{AtomicBool, Ordering};
 
 use captions::limits::{MOST_CUES, MOST_SAMPLES, RECORD_BYTES, ROW_BYTES};
+use captions::wvtt::{Sample, TrackSample};
 use captions::{vtt, Reason, Refusal};
 
 use crate::bytes::{be16, be32};
 use crate::failure::Failure;
-use crate::lines::{header, last_block};
+use crate::lines::{has_whole_times, header, last_block};
 use crate::output::{Outputs, STREAM};
 use crate::shown::Shown;
 use crate::words;
 
-/// The most bytes of a file that are held: some fifty times the largest list, and more than a
-/// thousand times an honest track.
-pub const MOST: u64 = 256 << 20;
+/// The most bytes of a file that are held: more than ten times the largest list, and hundreds of
+/// times an honest track.
+pub const MOST: u64 = 64 << 20;
 
 /// The scale at which a WebVTT file is read and written.
 pub const VTT_SCALE: u32 = 1000;
@@ -74,9 +75,7 @@ impl List {
             header: Some(header),
         })
     }
-}
 
-impl List {
     /// How many cues it has.
     pub fn len(&self) -> usize {
         self.records.len() / RECORD_BYTES
@@ -98,9 +97,10 @@ impl List {
 
 /// Whether a WebVTT file is refused in the same way however it goes on behind its first bytes.
 /// Blocks are judged one by one, so a fault before the last of them stays the first. In that one a
-/// text only grows longer, and what is wrong in a header stays there.
+/// text only grows longer, if the timing line is whole. What is wrong in a header stays there.
 fn is_settled(start: &[u8], refusal: &Refusal) -> bool {
-    refusal.reason == Reason::PastLimit || refusal.place == 1 || refusal.place < last_block(start)
+    let long = refusal.reason == Reason::PastLimit && has_whole_times(start, refusal.place);
+    long || refusal.place == 1 || refusal.place < last_block(start)
 }
 
 /// Where the texts of a record end in the pool.
@@ -129,6 +129,23 @@ impl TrackFiles {
         let bytes = rows.map(|row| u64::from(be32(row, 4))).sum::<u64>() + 1;
         let samples = read_part(&with(&name, ".samples"), if fits { bytes } else { 0 })?;
         Ok(TrackFiles { table, samples })
+    }
+
+    /// The samples and their times, up to the first that is not good.
+    pub fn samples(&self) -> impl Iterator<Item = TrackSample<'_>> {
+        let (mut rest, mut start_tick) = (&self.samples[..], 0);
+        let rows = self.table.chunks_exact(ROW_BYTES);
+        rows.map_while(move |row| {
+            let (sample, behind) = rest.split_at_checked(be32(row, 4) as usize)?;
+            let sample = TrackSample {
+                start_tick,
+                duration: be32(row, 0),
+                sample: Sample::read(sample).ok()?,
+            };
+            rest = behind;
+            start_tick += u64::from(sample.duration);
+            Some(sample)
+        })
     }
 }
 
@@ -163,7 +180,11 @@ pub fn is_tx3g(entry: &[u8]) -> bool {
 
 /// Whether a name stands for a WebVTT file.
 pub fn is_vtt(name: &OsStr) -> bool {
-    name == STREAM || name.as_bytes().ends_with(b".vtt")
+    let bytes = name.as_bytes();
+    name == STREAM
+        || bytes
+            .last_chunk()
+            .is_some_and(|end: &[u8; 4]| end.eq_ignore_ascii_case(b".vtt"))
 }
 
 /// The name that stands for a list's files.
@@ -188,7 +209,14 @@ fn base(name: &OsStr, endings: &[&str]) -> Result<OsString, Failure> {
     let stripped = endings
         .iter()
         .find_map(|ending| bytes.strip_suffix(ending.as_bytes()));
-    Ok(OsStr::from_bytes(stripped.unwrap_or(bytes)).to_owned())
+    let base = stripped.unwrap_or(bytes);
+    match base.last() {
+        None | Some(b'/') => Err(Failure::Usage(format!(
+            "\"{}\" is no name for files",
+            Shown::name(name)
+        ))),
+        _ => Ok(OsStr::from_bytes(base).to_owned()),
+    }
 }
 
 /// A name with an ending.

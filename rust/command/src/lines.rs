@@ -43,6 +43,16 @@ pub fn last_block(file: &[u8]) -> usize {
     empty.last().map_or(1, |(index, _)| index + 2)
 }
 
+/// Whether the times of a timing line are whole in the beginning of a file: another line follows,
+/// or a blank stands behind them. The line counts from 1.
+pub fn has_whole_times(start: &[u8], number: usize) -> bool {
+    let mut rest = lines(start).skip(number.saturating_sub(1));
+    let line = rest.next().map_or(&b""[..], |line| &start[line]);
+    let arrow = line.windows(3).position(|part| part == b"-->");
+    let behind = arrow.map_or(&b""[..], |arrow| line[arrow + 3..].trim_ascii_start());
+    rest.next().is_some() || behind.iter().any(|byte| b" \t".contains(byte))
+}
+
 #[cfg(test)]
 mod tests {
     use super::*;
@@ -71,6 +81,14 @@ mod tests {
         assert_eq!(part(b"WEBVTT\n\n"), b"WEBVTT");
         assert_eq!(part(b"\nWEBVTT"), b"");
         assert_eq!(part(b""), b"");
+    }
+
+    #[test]
+    fn times_are_whole_before_a_blank_or_a_line() {
+        let whole = |rest: &str| has_whole_times(format!("x\n00:00.000 --> {rest}").as_bytes(), 2);
+        assert!(whole("00:01.000 ") && whole("00:01.000\ta") && whole("00:01.000\na"));
+        assert!(!whole("00:01.000") && !whole("00:01") && !whole(" ") && !whole(""));
+        assert!(!has_whole_times(b"x", 9));
     }
 
     #[test]

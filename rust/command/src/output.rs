@@ -53,11 +53,28 @@ impl Outputs {
         filled.map_err(failed)
     }
 
+    /// Puts every output into its place, and tells what was done; where it cannot be told, no file
+    /// is changed.
+    pub fn report(self, said: &str) -> Result<(), Failure> {
+        self.put_direct()?;
+        match print(said.as_bytes()) {
+            Ok(()) | Err(Failure::Closed) => self.rename(),
+            Err(failure) => Err(failure),
+        }
+    }
+
     /// Puts every output into its place.
     pub fn commit(self) -> Result<(), Failure> {
-        for (name, bytes) in &self.direct {
-            put(name, bytes)?;
-        }
+        self.put_direct()?;
+        self.rename()
+    }
+
+    fn put_direct(&self) -> Result<(), Failure> {
+        let mut direct = self.direct.iter();
+        direct.try_for_each(|(name, bytes)| put(name, bytes))
+    }
+
+    fn rename(self) -> Result<(), Failure> {
         for Staged { name, from, to } in &self.files {
             fs::rename(from, to).map_err(|why| Failure::file(name, &why))?;
         }
@@ -101,7 +118,10 @@ fn target(name: &OsStr) -> io::Result<Option<PathBuf>> {
     let path = PathBuf::from(name);
     let found = match fs::metadata(&path) {
         Ok(found) => found,
-        Err(why) if why.kind() == ErrorKind::NotFound => return Ok(Some(path)),
+        // A link that leads nowhere is left alone.
+        Err(why) if why.kind() == ErrorKind::NotFound && fs::symlink_metadata(&path).is_err() => {
+            return Ok(Some(path));
+        }
         Err(why) => return Err(why),
     };
     if found.is_dir() {
@@ -142,9 +162,9 @@ fn put(name: &OsStr, bytes: &[u8]) -> Result<(), Failure> {
 
 /// Keeps from a terminal what could drive it.
 fn keep_from(is_terminal: bool, bytes: &[u8]) -> Result<(), Failure> {
-    let text = String::from_utf8_lossy(bytes);
+    let text = String::from_utf8_lossy(bytes).replace("\r\n", "\n");
     let mut letters = text.chars();
-    if !is_terminal || letters.all(|letter| is_plain(letter) || "\n\r\t".contains(letter)) {
+    if !is_terminal || letters.all(|letter| is_plain(letter) || "\n\t".contains(letter)) {
         return Ok(());
     }
     let why = "the output holds characters that could drive a terminal; name a file for it";

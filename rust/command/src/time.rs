@@ -1,6 +1,7 @@
 //! Times as `hh:mm:ss.mmm`.
 
 use std::fmt::{self, Display};
+use std::ops::RangeInclusive;
 
 /// Milliseconds as hours, minutes, seconds and thousandths.
 #[derive(Clone, Copy, Debug, PartialEq, Eq)]
@@ -22,23 +23,28 @@ pub fn clock_of(scale: u32, tick: u64) -> Clock {
 
 /// Milliseconds from whole milliseconds, `mm:ss.mmm` or `hh:mm:ss.mmm`.
 pub fn parse_ms(text: &str) -> Option<u32> {
-    let Some((clock, thousandths)) = text.split_once('.') else {
-        return digits(text, 1, 10)?.try_into().ok();
-    };
-    let mut parts = clock.rsplit(':');
-    let seconds = digits(parts.next()?, 2, 2).filter(|&seconds| seconds < 60)?;
-    let minutes = digits(parts.next()?, 2, 2).filter(|&minutes| minutes < 60)?;
-    let hours = parts.next().map_or(Some(0), |hours| digits(hours, 2, 6))?;
-    let end = parts.next().is_none();
-    let ms = ((hours * 60 + minutes) * 60 + seconds) * 1000 + digits(thousandths, 3, 3)?;
-    end.then_some(ms)?.try_into().ok()
+    let ms = parse_clock(text).or_else(|| digits(text, 1..=10));
+    ms?.try_into().ok()
 }
 
-/// A number of so many decimal digits.
-fn digits(text: &str, least: usize, most: usize) -> Option<u64> {
+/// Milliseconds from `mm:ss.mmm`, or from that behind two or more digits of hours and a colon.
+pub fn parse_clock(text: &str) -> Option<u64> {
+    let (clock, thousandths) = text.split_once('.')?;
+    let mut parts = clock.rsplit(':');
+    let mut sixty = || digits(parts.next()?, 2..=2).filter(|&number| number < 60);
+    let (seconds, minutes) = (sixty()?, sixty()?);
+    let hours = parts
+        .next()
+        .map_or(Some(0), |hours| digits(hours, 2..=usize::MAX));
+    let below = (minutes * 60 + seconds) * 1000 + digits(thousandths, 3..=3)?;
+    let ms = hours?.saturating_mul(3_600_000).saturating_add(below);
+    parts.next().is_none().then_some(ms)
+}
+
+/// A number of so many decimal digits; the largest, where it is larger.
+fn digits(text: &str, length: RangeInclusive<usize>) -> Option<u64> {
     let plain = text.bytes().all(|byte| byte.is_ascii_digit());
-    let fits = (least..=most).contains(&text.len());
-    (plain && fits).then(|| text.parse().ok())?
+    (plain && length.contains(&text.len())).then(|| text.parse().unwrap_or(u64::MAX))
 }
 
 #[cfg(test)]
@@ -60,6 +66,12 @@ mod tests {
         assert_eq!(parse_ms("00:00.001"), Some(1));
         assert_eq!(parse_ms("99:59:59.999"), Some(359_999_999));
         assert_eq!(parse_ms("0100:00:00.000"), Some(360_000_000));
+        assert_eq!(parse_ms("00000000000000000000000:01.000"), None);
+        assert_eq!(parse_ms("00000000000000000000000:00:01.000"), Some(1000));
+        assert_eq!(
+            parse_clock(&format!("{}:00:01.000", "9".repeat(99))),
+            Some(u64::MAX)
+        );
         for bad in [
             "",
             "-1",

@@ -36,7 +36,9 @@ fn each_command_has_help_with_an_example() {
             help.lines().all(|line| line.chars().count() <= 90),
             "{help}"
         );
-        assert_eq!(folder.run(&format!("{command} a b c --help")).done(), help);
+        for line in [format!("{command} a b c --help"), format!("help {command}")] {
+            assert_eq!(folder.run(&line).done(), help);
+        }
     }
     let version = format!("captions {}\n", captions::VERSION);
     assert_eq!(folder.run("--version").done(), version);
@@ -49,6 +51,7 @@ fn a_command_line_that_is_not_understood_is_trouble() {
         "",
         "--x",
         "pac",
+        "help pac",
         "pack",
         "pack saws.vtt",
         "pack saws.vtt a",
@@ -77,6 +80,9 @@ fn a_command_line_that_is_not_understood_is_trouble() {
         "from-vtt saws.vtt",
         "from-vtt saws.vtt -",
         "from-vtt saws.vtt a.vtt",
+        "from-vtt saws.vtt a.VTT",
+        "from-vtt saws.vtt ./",
+        "from-vtt saws.vtt .rec",
         "to-vtt saws.vtt",
     ] {
         let said = folder.run(line).trouble();
@@ -213,10 +219,10 @@ fn standard_input_is_a_file() {
     assert!(
         written.starts_with("WEBVTT - Table saw, first week\nKind: captions\nLanguage: en\n\n1\n")
     );
-    let unpacked = folder
-        .run("unpack track - --scale 1000 --header track.entry")
-        .done();
-    assert_eq!(unpacked, written);
+    let unpacked = folder.run("unpack track - --scale 1000 --header track.entry");
+    let told = "7 cues, T 20000 ms (00:00:20.000)\n";
+    assert_eq!((unpacked.status, &unpacked.err[..]), (Some(0), told));
+    assert_eq!(unpacked.out, written);
     let sample = b"\0\0\0\x08vtte";
     assert_eq!(
         folder.run_with(["judge", "sample", "-"], sample).done(),
@@ -255,6 +261,10 @@ fn a_packed_list_comes_back() {
         "7 cues, 574 bytes\n"
     );
     assert_eq!(folder.get("out.vtt"), folder.get("back.vtt"));
+    folder.put("OUT.VTT", folder.get("out.vtt"));
+    folder
+        .run("check OUT.VTT track --scale 90000 --t 20000")
+        .done();
 }
 
 #[test]

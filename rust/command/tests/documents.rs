@@ -48,6 +48,11 @@ fn the_session_of_the_command_s_document() {
         });
         assert_eq!(again.collect::<String>(), block);
     }
+    let picture = fs::read(top().join("docs/house.svg")).expect("the picture is there");
+    assert!(
+        folder.get("house.svg") == picture,
+        "docs/house.svg is another picture"
+    );
 }
 
 #[test]

@@ -248,6 +248,35 @@ fn standard_output_that_is_full_or_closed() {
 }
 
 #[test]
+fn what_cannot_be_told_is_not_done() {
+    let folder = whole();
+    for (line, outputs) in old(&folder) {
+        old(&folder);
+        let before = folder.names();
+        let said = folder.shell(&format!("captions {line} >/dev/full"));
+        assert_eq!(
+            said.trouble(),
+            "captions: standard output: No space left on device (os error 28)\n"
+        );
+        assert!(outputs.iter().all(|name| folder.get(name) == b"old"));
+        assert_eq!(folder.names(), before);
+        // Somebody who does not read it wants it done all the same.
+        let closed = folder.shell(&format!("captions {line} >&-"));
+        assert_eq!(closed.status, Some(0), "{}", closed.err);
+        assert!(outputs.iter().all(|name| folder.get(name) != b"old"));
+    }
+    // The verdict does not hang on a reader either.
+    let show = "captions show list list --track track --scale 1000 --t 19999";
+    let closed = folder.shell(&format!("{{ {show}; echo $? >status; }} | true"));
+    assert!(
+        closed.err.contains("refused 16 at sample 9: "),
+        "{}",
+        closed.err
+    );
+    assert_eq!(folder.get("status"), b"1\n");
+}
+
+#[test]
 fn outputs_that_are_no_files() {
     let folder = whole();
     fs::create_dir(folder.path("out.samples")).expect("a folder");
@@ -344,7 +373,7 @@ fn very_long_webvtt_files_and_samples() {
             .expect("a hole costs nothing");
     };
     let run = |line: &str| folder.shell(&format!("ulimit -v 900000; captions {line}"));
-    let most = "more than the 268435456 bytes that are held of a file";
+    let most = "more than the 67108864 bytes that are held of a file";
     grow("zeros.vtt");
     assert!(run("judge vtt zeros.vtt")
         .refused()

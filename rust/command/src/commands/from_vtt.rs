@@ -6,7 +6,7 @@ use super::Command;
 use crate::args::Args;
 use crate::failure::Failure;
 use crate::files::List;
-use crate::output::{print, Outputs};
+use crate::output::Outputs;
 
 pub const COMMAND: Command = Command {
     name: "from-vtt",
@@ -36,6 +36,7 @@ fn run(raw: &[OsString]) -> Result<(), Failure> {
     let (cues, records, pool) = (list.len(), list.records.len(), list.pool.len());
     let mut outputs = Outputs::default();
     list.stage(&to, &mut outputs)?;
-    outputs.commit()?;
-    print(format!("{cues} cues: {records} bytes of records, {pool} of pool\n").as_bytes())
+    outputs.report(&format!(
+        "{cues} cues: {records} bytes of records, {pool} of pool\n"
+    ))
 }

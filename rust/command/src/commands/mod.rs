@@ -41,21 +41,21 @@ pub fn run(args: &[OsString]) -> Result<(), Failure> {
             "a command is missing; captions --help names them".into(),
         ));
     };
-    if first == "--help" || first == "help" {
+    let asked = first == "help" && !rest.is_empty();
+    if (first == "--help" || first == "help") && !asked {
         return print(help().as_bytes());
     }
     if first == "--version" {
         return print(format!("captions {}\n", captions::VERSION).as_bytes());
     }
-    let Some(command) = COMMANDS.iter().find(|command| first == command.name) else {
-        let why = format!(
-            "no command is called {}; captions --help names them",
-            Shown::name(first)
-        );
+    let name = if asked { &rest[0] } else { first };
+    let Some(command) = COMMANDS.iter().find(|command| name == command.name) else {
+        let name = Shown::name(name);
+        let why = format!("no command is called {name}; captions --help names them");
         return Err(Failure::Usage(why));
     };
-    let options = rest.split(|arg| arg == "--").next().unwrap_or_default();
-    if options.iter().any(|arg| arg == "--help") {
+    let mut options = rest.iter().take_while(|arg| *arg != "--");
+    if asked || options.any(|arg| arg == "--help") {
         return print(command.help.as_bytes());
     }
     (command.run)(rest).map_err(|failure| named(command.name, failure))
@@ -90,5 +90,10 @@ fn help() -> String {
 
 /// Prints a warning on standard error.
 fn warn(what: impl Display) {
-    let _ = writeln!(io::stderr(), "warning: {what}");
+    say(&format!("warning: {what}\n"));
+}
+
+/// Prints on standard error. Where that cannot be written, the exit status has to do.
+fn say(what: &str) {
+    let _ = io::stderr().write_all(what.as_bytes());
 }

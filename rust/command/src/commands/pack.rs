@@ -12,7 +12,7 @@ use crate::args::Args;
 use crate::bytes::be32;
 use crate::failure::Failure;
 use crate::files::{read_header, track_base, with, List, MOST};
-use crate::output::{print, Outputs, STREAM};
+use crate::output::{Outputs, STREAM};
 use crate::words;
 
 pub const COMMAND: Command = Command {
@@ -66,8 +66,7 @@ fn run(raw: &[OsString]) -> Result<(), Failure> {
     for (ending, bytes) in [(".table", table), (".samples", samples), (".entry", entry)] {
         outputs.add(&with(&to, ending), bytes)?;
     }
-    outputs.commit()?;
-    print(report.as_bytes())
+    outputs.report(&report)
 }
 
 fn pack(list: &List, scale: u32, t: u32) -> Result<(Vec<u8>, Vec<u8>), Failure> {
@@ -79,7 +78,10 @@ fn pack(list: &List, scale: u32, t: u32) -> Result<(Vec<u8>, Vec<u8>), Failure> 
             "the samples would have {bytes} bytes, more than the {MOST} that are held"
         )));
     }
-    wvtt::pack_to_vecs(scale, t, &list.records, &list.pool).map_err(refused)
+    let (mut table, mut samples) = (vec![0; room.table_bytes], vec![0; room.sample_bytes]);
+    let (records, pool) = (&list.records, &list.pool);
+    wvtt::pack(scale, t, records, pool, &mut table, &mut samples).map_err(refused)?;
+    Ok((table, samples))
 }
 
 fn entry(header: &[u8], label: &str) -> Result<Vec<u8>, Failure> {

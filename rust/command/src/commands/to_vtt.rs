@@ -10,7 +10,7 @@ use super::{warn, Command};
 use crate::args::Args;
 use crate::failure::Failure;
 use crate::files::{read_header, List, VTT_SCALE};
-use crate::output::{print, Outputs, STREAM};
+use crate::output::{Outputs, STREAM};
 use crate::words;
 
 pub const COMMAND: Command = Command {
@@ -45,11 +45,10 @@ fn run(raw: &[OsString]) -> Result<(), Failure> {
     let report = format!("{} cues, {} bytes\n", list.len(), file.len());
     let mut outputs = Outputs::default();
     outputs.add(&to, file)?;
-    outputs.commit()?;
-    if to == STREAM {
-        return Ok(());
+    match to == STREAM {
+        true => outputs.commit(),
+        false => outputs.report(&report),
     }
-    print(report.as_bytes())
 }
 
 /// A list as a WebVTT file, behind the header that a file has, or the list's own. It warns where

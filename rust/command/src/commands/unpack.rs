@@ -5,11 +5,11 @@ use std::ffi::OsString;
 use captions::wvtt;
 
 use super::to_vtt::vtt_file;
-use super::Command;
+use super::{say, Command};
 use crate::args::Args;
 use crate::failure::Failure;
 use crate::files::{is_vtt, List, TrackFiles};
-use crate::output::{print, Outputs, STREAM};
+use crate::output::{Outputs, STREAM};
 use crate::time::Clock;
 use crate::words;
 
@@ -23,7 +23,8 @@ pub const COMMAND: Command = Command {
 const HELP: &str = "\
 captions unpack TRACK LIST --scale N [--header FILE]
 
-Unpacks a track and prints how many cues it has and T, its length.
+Unpacks a track and prints how many cues it has and T, its length; on standard error,
+where the list goes to standard output.
 
   TRACK          NAME for NAME.table and NAME.samples
   LIST           NAME for NAME.rec and NAME.pool, or a WebVTT file: FILE.vtt, or - for
@@ -61,9 +62,11 @@ fn run(raw: &[OsString]) -> Result<(), Failure> {
     } else {
         list.stage(&to, &mut outputs)?;
     }
-    outputs.commit()?;
+    let report = format!("{cues} cues, T {t} ms ({})\n", Clock(t.into()));
     if to == STREAM {
+        outputs.commit()?;
+        say(&report);
         return Ok(());
     }
-    print(format!("{cues} cues, T {t} ms ({})\n", Clock(t.into())).as_bytes())
+    outputs.report(&report)
 }

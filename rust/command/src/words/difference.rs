@@ -2,7 +2,7 @@
 
 use std::collections::HashMap;
 
-use captions::wvtt::{Cue, Sample, Track, TrackSample};
+use captions::wvtt::{Cue, Sample, TrackSample};
 use captions::{tick, CueListRef, ListedCue, Reason};
 
 use super::track::changed_text;
@@ -17,8 +17,7 @@ const SHOWN: usize = 40;
 /// track are good, and the place is the check's.
 pub fn at(list: &List, track: &TrackFiles, scale: u32, t: u32, place: usize) -> String {
     let cues = CueListRef::read(scale, t, &list.records, &list.pool);
-    let track = Track::from_parts(track.table.clone(), track.samples.clone());
-    let (Ok(cues), Ok(track)) = (cues, track) else {
+    let Ok(cues) = cues else {
         return Reason::Differs.to_string();
     };
     let last = tick(scale, t);
@@ -166,6 +165,7 @@ fn part(text: &str) -> String {
 #[cfg(test)]
 mod tests {
     use super::*;
+    use captions::wvtt::Track;
     use captions::{CueList, Fault, Refusal};
 
     const CUES: [ListedCue; 3] = [

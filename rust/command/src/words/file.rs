@@ -1,5 +1,7 @@
 //! WebVTT files.
 
+use std::fmt::{self, Display};
+
 use captions::limits::{LARGEST_MS, LONGEST_LINE, LONGEST_PAYLOAD, MOST_CUES};
 use captions::wvtt::{judge_identifier, judge_payload};
 use captions::{Reason, Refusal};
@@ -7,7 +9,7 @@ use captions::{Reason, Refusal};
 use super::text::{bad_text, Rule};
 use crate::lines::{header, lines};
 use crate::shown::Shown;
-use crate::time::{parse_ms, Clock};
+use crate::time::{parse_clock, Clock};
 
 /// How many bytes of a line or a time are shown.
 const SHOWN: usize = 60;
@@ -35,15 +37,18 @@ struct Around<'a> {
     before: &'a [u8],
     /// The last line before it that holds `-->`, and its index.
     timing: Option<(usize, &'a [u8])>,
+    /// How many lines before it hold `-->`: the cues before a cue that is refused.
+    cues: usize,
 }
 
 impl<'a> Around<'a> {
     fn of(file: &'a [u8], index: usize) -> Self {
         let (mut rest, mut line, mut before) = (&b""[..], &b""[..], &b""[..]);
-        let mut timing = None;
+        let (mut timing, mut cues) = (None, 0);
         for (number, range) in lines(file).enumerate().take(index + 1) {
             if holds_arrow(line) {
                 timing = Some((number - 1, line));
+                cues += 1;
             }
             rest = &file[range.start..];
             before = std::mem::replace(&mut line, &file[range]);
@@ -55,6 +60,7 @@ impl<'a> Around<'a> {
             line,
             before,
             timing,
+            cues,
         }
     }
 
@@ -116,29 +122,42 @@ fn arrow_in(line: &[u8]) -> Option<usize> {
 /// The beginning of a line or a time as it is shown.
 struct Start<'a>(&'a [u8]);
 
-impl std::fmt::Display for Start<'_> {
-    fn fmt(&self, f: &mut std::fmt::Formatter) -> std::fmt::Result {
-        let shown = &self.0[..self.0.len().min(SHOWN)];
-        let more = if shown.len() < self.0.len() {
-            "…"
-        } else {
-            ""
-        };
-        write!(f, "{}{more}", Shown::bytes(shown))
+impl Display for Start<'_> {
+    fn fmt(&self, f: &mut fmt::Formatter) -> fmt::Result {
+        if self.0.len() <= SHOWN {
+            return write!(f, "{}", Shown::bytes(self.0));
+        }
+        // A character is not cut: its further bytes are 80 to BF, three at most.
+        let is_inside = |end: &usize| self.0[*end] & 0xC0 == 0x80;
+        let end = (SHOWN - 3..=SHOWN).rev().find(|end| !is_inside(end));
+        write!(f, "{}…", Shown::bytes(&self.0[..end.unwrap_or(SHOWN)]))
     }
 }
 
-/// What stands out in a timing line that is malformed.
-fn hint(line: &[u8]) -> &'static str {
+/// What is wrong with a timing line that is malformed.
+fn hint(line: &[u8]) -> String {
     let is_blank = |byte: Option<&u8>| byte.is_some_and(|byte| b" \t".contains(byte));
     let arrow = arrow_in(line).unwrap_or(0);
     let (start, end) = (&line[..arrow], line.get(arrow + 3..).unwrap_or_default());
-    if !is_blank(start.last()) || !is_blank(end.first()) {
-        return "a space is missing beside the -->";
+    if is_blank(line.first()) {
+        return "a blank stands in front of the first time".into();
     }
-    match start.contains(&b',') {
-        true => "a comma stands where a dot belongs",
-        false => "times are hh:mm:ss.mmm or mm:ss.mmm, and a space or tab stands behind the second",
+    if !is_blank(start.last()) || !is_blank(end.first()) {
+        return "a space is missing beside the -->".into();
+    }
+    let end = end.trim_ascii_start();
+    let times = [start.trim_ascii_end(), &end[..word(end)]];
+    let bad = times
+        .into_iter()
+        .find(|time| clock_in(time).is_none())
+        .unwrap_or_default();
+    let dotted: Vec<u8> = bad
+        .iter()
+        .map(|&byte| if byte == b',' { b'.' } else { byte })
+        .collect();
+    match clock_in(&dotted) {
+        Some(_) => format!("a comma stands for the dot of {}", Start(bad)),
+        None => format!("\"{}\" is not hh:mm:ss.mmm or mm:ss.mmm", Start(bad)),
     }
 }
 
@@ -178,7 +197,7 @@ impl<'a> Cue<'a> {
 
     fn says(&self, around: &Around, refusal: &Refusal) -> String {
         match refusal.reason {
-            Reason::PastLimit => self.too_long(),
+            Reason::PastLimit => self.too_long(around.cues),
             Reason::BadText => self.bad_text(around.index, refusal.offset),
             Reason::BadTime => self.bad_time(),
             Reason::BadOrder => self.early(around.timing.unwrap_or_default()),
@@ -186,15 +205,16 @@ impl<'a> Cue<'a> {
         }
     }
 
-    fn too_long(&self) -> String {
+    fn too_long(&self, cues: usize) -> String {
+        if cues >= MOST_CUES {
+            return format!("one cue too many; at most {MOST_CUES} are allowed");
+        }
         let (name, limit) = if self.identifier.len() > LONGEST_LINE {
             ("identifier", LONGEST_LINE)
         } else if self.settings.len() > LONGEST_LINE {
             ("settings", LONGEST_LINE)
-        } else if self.payload.len() > LONGEST_PAYLOAD {
-            ("payload", LONGEST_PAYLOAD)
         } else {
-            return format!("one cue too many; at most {MOST_CUES} are allowed");
+            ("payload", LONGEST_PAYLOAD)
         };
         format!("more bytes in the {name} than the {limit} that are allowed")
     }
@@ -235,10 +255,14 @@ impl<'a> Cue<'a> {
     }
 }
 
+/// The milliseconds of a time, if it is well formed.
+fn clock_in(time: &[u8]) -> Option<u64> {
+    std::str::from_utf8(time).ok().and_then(parse_clock)
+}
+
 /// Whether a time is allowed.
 fn is_time(time: &[u8]) -> bool {
-    let ms = std::str::from_utf8(time).ok().and_then(parse_ms);
-    ms.is_some_and(|ms| ms <= LARGEST_MS)
+    clock_in(time).is_some_and(|ms| ms <= LARGEST_MS.into())
 }
 
 /// How many bytes stand before the first space or tab.
@@ -316,16 +340,38 @@ mod tests {
         let hints = [
             (
                 "00:00,000 --> 00:01,000",
-                "a comma stands where a dot belongs",
+                "a comma stands for the dot of 00:00,000",
+            ),
+            (
+                "00:00.000 --> 00:01,000",
+                "a comma stands for the dot of 00:01,000",
+            ),
+            (
+                "Wait, what --> 00:01.000",
+                "'Wait, what' is not hh:mm:ss.mmm or mm:ss.mmm",
             ),
             ("00:00.000-->00:01.000", "a space is missing beside the -->"),
             ("-->", "a space is missing beside the -->"),
             (
+                " 00:00.000 --> 00:01.000",
+                "a blank stands in front of the first time",
+            ),
+            (
                 "0:00.000 --> 0:01.000",
-                "times are hh:mm:ss.mmm or mm:ss.mmm, and a space or tab stands behind the second",
+                "'0:00.000' is not hh:mm:ss.mmm or mm:ss.mmm",
+            ),
+            (
+                "00:00.000 --> 00:60.000",
+                "'00:60.000' is not hh:mm:ss.mmm or mm:ss.mmm",
+            ),
+            ("00:00.000 --> ", "'' is not hh:mm:ss.mmm or mm:ss.mmm"),
+            (
+                "00:00.000 --> 00:01.000a b",
+                "'00:01.000a' is not hh:mm:ss.mmm or mm:ss.mmm",
             ),
         ];
         for (line, hint) in hints {
+            let hint = hint.replace('\'', "\"");
             assert_eq!(
                 said(line),
                 format!("19 3: \"{line}\" is no timing line: {hint}")
@@ -336,11 +382,23 @@ mod tests {
             escaped.starts_with("19 3: \"\\u{1b}\\u{202e} --> 1\" is"),
             "{escaped}"
         );
+    }
+
+    #[test]
+    fn long_lines_are_cut_between_characters() {
         let long = said(&format!("{} --> ", "9".repeat(500)));
         assert!(
             long.len() < 250 && long.contains("999…\" is no timing line"),
             "{long}"
         );
+        for front in ["", "a", "aa"] {
+            let long = said(&format!("{front}{} --> ", "日".repeat(500)));
+            assert!(
+                long.contains("日日…\" is no timing line") && !long.contains('\\'),
+                "{long}"
+            );
+        }
+        assert!(said(&format!("{} --> ", "\u{301}".repeat(500))).contains("…\" is no timing line"));
     }
 
     #[test]
@@ -366,6 +424,8 @@ mod tests {
         let cue = format!("{timing}\na\n\n");
         let many = "one cue too many; at most 1024 are allowed";
         assert_eq!(said(&cue.repeat(1025)), format!("9 3075: {many}"));
+        let long = format!("{}{}\n{timing}\n", cue.repeat(1024), "i".repeat(300));
+        assert_eq!(said(&long), format!("9 3076: {many}"));
     }
 
     #[test]
@@ -377,6 +437,10 @@ mod tests {
         assert_eq!(
             said("00:00.000 --> 100:00:00.000"),
             "10 3: the cue ends at 100:00:00.000; the largest time is 99:59:59.999"
+        );
+        assert_eq!(
+            said("0000000000:00:02.000 --> 00:02.000"),
+            "10 3: the cue starts at 0000000000:00:02.000 and ends at 00:02.000, not after it"
         );
         assert_eq!(
             said("00:03.000 --> 00:04.000\nx\n\nNOTE\n\n00:01.000 --> 00:02.000"),

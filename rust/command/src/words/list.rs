@@ -5,6 +5,7 @@ use captions::limits::{MOST_CUES, RECORD_BYTES};
 use captions::wvtt::{judge_identifier, judge_payload};
 use captions::{judge_list, tick, Reason, Refusal};
 
+use super::boxes::count;
 use super::text::{bad_text, too_long, Rule};
 use crate::bytes::{be16, be32};
 use crate::files::List;
@@ -12,18 +13,17 @@ use crate::time::Clock;
 
 /// The kind of a refusal's place in a list, and what is wrong there.
 pub fn in_list(list: &List, scale: u32, t: u32, refusal: &Refusal) -> (&'static str, String) {
-    let count = list.records.len() / RECORD_BYTES;
-    let left_over = list.records.len() % RECORD_BYTES;
+    let rows = list.records.chunks_exact(RECORD_BYTES);
+    let left_over = rows.remainder().len();
     if judge_list(scale, t, &[], &[]).is_err() {
         return ("place", in_times(scale, t));
     }
     if left_over != 0 {
-        return (
-            "place",
-            format!("the last record has {left_over} bytes of its {RECORD_BYTES}"),
-        );
+        let has = count(left_over, "byte");
+        let what = format!("the last record has {has} of its {RECORD_BYTES}");
+        return ("place", what);
     }
-    if count > MOST_CUES {
+    if rows.len() > MOST_CUES {
         return (
             "place",
             format!("the list has more than {MOST_CUES} records"),

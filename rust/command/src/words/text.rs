@@ -19,7 +19,10 @@ const SIGNATURE: &[u8] = b"WEBVTT";
 pub fn bad_text(name: &str, rule: Rule, text: &[u8], offset: usize) -> String {
     let what = match text.get(offset) {
         Some(&byte) => bad_byte(rule, text, offset, byte),
-        None => return format!("the {name} {}", bad_end(rule, text)),
+        None => {
+            let verb = if name.ends_with('s') { "end" } else { "ends" };
+            return format!("the {name} {verb} {}", bad_end(rule, text));
+        }
     };
     let own = if name.ends_with('s') { "'" } else { "'s" };
     format!("the {name}{own} byte {offset} {what}")
@@ -35,25 +38,27 @@ fn bad_byte(rule: Rule, text: &[u8], offset: usize, byte: u8) -> &'static str {
     if rule == Rule::Configuration && SIGNATURE.get(offset).is_some_and(|&letter| letter != byte) {
         return "is not that of WEBVTT, with which it begins";
     }
-    let ends_arrow = text[..offset].ends_with(b"--") && byte == b'>';
+    let before = &text[..offset];
+    let ends_arrow = before.ends_with(b"--") && byte == b'>';
+    let in_line_end = matches!(before.last(), Some(b'\r' | b'\n'));
     match (rule, byte) {
         (Rule::Line | Rule::Payload, b'>') if ends_arrow => "ends a -->",
         (Rule::Line | Rule::Payload, 0) => "is a zero byte",
         (Rule::Line, b'\r' | b'\n') => "is a line end",
         (Rule::Payload, b'\r' | b'\n') if offset == 0 => "is a line end in front",
-        (Rule::Payload, b'\r' | b'\n') => "ends an empty line",
+        (Rule::Payload, b'\r' | b'\n') if in_line_end => "ends an empty line",
         _ => "is not UTF-8",
     }
 }
 
-/// What a text lacks that could still become right.
+/// Where a text ends that could still become right.
 fn bad_end(rule: Rule, text: &[u8]) -> &'static str {
     match text.last() {
         _ if rule == Rule::Configuration && text.len() < SIGNATURE.len() => {
-            "does not begin with WEBVTT"
+            "within WEBVTT, with which it begins"
         }
-        Some(b'\r' | b'\n') => "ends in a line end",
-        _ => "ends within a character",
+        Some(b'\r' | b'\n') => "in a line end",
+        _ => "within a character",
     }
 }
 
@@ -87,10 +92,20 @@ mod tests {
             (Payload, b"a\n\nb", "the text's byte 2 ends an empty line"),
             (Payload, b"a\r\r", "the text's byte 2 ends an empty line"),
             (Payload, b"a\r\n", "the text ends in a line end"),
+            (Payload, b"Caf\xe9\nb", "the text's byte 4 is not UTF-8"),
+            (Payload, b"Caf\xc3\r\nb", "the text's byte 4 is not UTF-8"),
             (Payload, b"-->", "the text's byte 2 ends a -->"),
             (Payload, b"a\0", "the text's byte 1 is a zero byte"),
-            (Configuration, b"WEB", "the text does not begin with WEBVTT"),
-            (Configuration, b"", "the text does not begin with WEBVTT"),
+            (
+                Configuration,
+                b"WEB",
+                "the text ends within WEBVTT, with which it begins",
+            ),
+            (
+                Configuration,
+                b"",
+                "the text ends within WEBVTT, with which it begins",
+            ),
             (
                 Configuration,
                 b"webvtt",

@@ -3,9 +3,10 @@
 use std::collections::HashMap;
 
 use captions::limits::{LARGEST_MS, LARGEST_SCALE, MOST_CUES, MOST_SAMPLES, ROW_BYTES};
-use captions::wvtt::{judge_sample, judge_track, Cue, Track, TrackSample};
+use captions::wvtt::{judge_sample, judge_track, Cue, TrackSample};
 use captions::{milliseconds, Reason, Refusal};
 
+use super::boxes::count;
 use super::list::in_times;
 use super::wvtt::in_sample;
 use crate::bytes::be32;
@@ -17,7 +18,8 @@ pub fn in_track(track: &TrackFiles, refusal: &Refusal) -> (&'static str, String)
     let rows = track.table.chunks_exact(ROW_BYTES);
     let left_over = rows.remainder().len();
     if left_over != 0 {
-        let what = format!("the last row of the table has {left_over} bytes of its {ROW_BYTES}");
+        let has = count(left_over, "byte");
+        let what = format!("the last row of the table has {has} of its {ROW_BYTES}");
         return ("place", what);
     }
     if rows.len() > MOST_SAMPLES {
@@ -60,20 +62,19 @@ pub fn in_unpacking(track: &TrackFiles, scale: u32, refusal: &Refusal) -> (&'sta
     if judge_track(&track.table, &track.samples).is_err() {
         return in_track(track, refusal);
     }
-    let unknown = ("place", refusal.reason.to_string());
-    let Ok(whole) = Track::from_parts(track.table.clone(), track.samples.clone()) else {
-        return unknown;
-    };
     if refusal.reason == Reason::BadTime {
-        return in_unpacked_times(&whole, scale, refusal.place);
+        return in_unpacked_times(track, scale, refusal.place);
     }
-    let past = Past::before(&whole, refusal.place);
-    let Some(sample) = whole.samples().nth(refusal.place) else {
-        return unknown;
-    };
-    let cues: Vec<Cue> = sample.cues().collect();
+    let past = Past::before(track, refusal.place);
+    let sample = track.samples().nth(refusal.place);
+    // The cues before the one that is refused are good, and so no more than a list has.
+    let cues = sample.iter().flat_map(TrackSample::cues);
+    let cues: Vec<Cue> = cues.take(MOST_CUES + 1).collect();
     let found = (0..cues.len()).find_map(|index| in_cue(&past, &cues, index, refusal));
-    ("sample", found.unwrap_or(unknown.1))
+    (
+        "sample",
+        found.unwrap_or_else(|| refusal.reason.to_string()),
+    )
 }
 
 /// A cue as the samples so far have it.
@@ -93,7 +94,7 @@ struct Past<'a> {
 }
 
 impl<'a> Past<'a> {
-    fn before(track: &'a Track, end: usize) -> Self {
+    fn before(track: &'a TrackFiles, end: usize) -> Self {
         let mut past = Past::default();
         for (index, sample) in track.samples().enumerate().take(end) {
             for cue in sample.cues() {
@@ -136,45 +137,38 @@ impl<'a> Past<'a> {
 
 /// What a refusal says about a cue of a sample; nothing, if it is about another.
 fn in_cue(past: &Past, cues: &[Cue], index: usize, refusal: &Refusal) -> Option<String> {
-    let cue = &cues[index];
+    let (cue, earlier) = (&cues[index], &cues[..index]);
     let Some(id) = cue.id else {
         let none = refusal.reason == Reason::NoId;
         return none.then(|| format!("its cue {index}, counted from 0, has no ID (vsid)"));
     };
-    let earlier = &cues[..index];
-    let known = past.get(id);
+    if refusal.reason == Reason::PastLimit {
+        let what = format!("more than {MOST_CUES} cues, the most that are unpacked");
+        return Some(format!("with it the track has {what}"));
+    }
+    if refusal.reason == Reason::IdTwice {
+        let twice = earlier.iter().any(|other| other.id == cue.id);
+        return twice.then(|| format!("the ID {id} stands twice in it"));
+    }
+    if refusal.reason == Reason::BadOrder {
+        let before = earlier
+            .last()
+            .filter(|before| past.rank(before) > past.rank(cue))?;
+        let newer = format!("a newer one, with ID {}", before.id.unwrap_or(0));
+        return Some(format!("the cue with ID {id} stands behind {newer}"));
+    }
+    let known = past.get(id)?;
+    let last = known.sample;
     match refusal.reason {
-        Reason::IdTwice => {
-            let twice = earlier.iter().any(|other| other.id == cue.id);
-            twice.then(|| format!("the ID {id} stands twice in it"))
-        }
-        Reason::IdAfterGap => {
-            let known = known.filter(|seen| seen.sample + 1 < refusal.place)?;
-            Some(format!(
-                "the ID {id} comes back; the last sample with it is {}",
-                known.sample
-            ))
-        }
-        Reason::OtherTexts => {
-            let known = known.filter(|seen| seen.cue != *cue)?;
+        Reason::IdAfterGap if last + 1 < refusal.place => Some(format!(
+            "the ID {id} comes back; the last sample with it is {last}"
+        )),
+        Reason::OtherTexts if known.cue != *cue => {
             let name = changed_text(&known.cue, cue);
             Some(format!(
-                "the cue with ID {id} has another {name} than in sample {}",
-                known.sample
+                "the cue with ID {id} has another {name} than in sample {last}"
             ))
         }
-        Reason::BadOrder => {
-            let older = earlier
-                .last()
-                .filter(|before| past.rank(before) > past.rank(cue))?;
-            let newer = older.id.unwrap_or(0);
-            Some(format!(
-                "the cue with ID {id} stands behind a newer one, with ID {newer}"
-            ))
-        }
-        Reason::PastLimit => Some(format!(
-            "with it the track has more than {MOST_CUES} cues, the most that are unpacked"
-        )),
         _ => None,
     }
 }
@@ -191,8 +185,8 @@ pub fn changed_text(cue: &Cue, other: &Cue) -> &'static str {
 }
 
 /// What is wrong with the times of a track that is unpacked: a record's, or T.
-fn in_unpacked_times(track: &Track, scale: u32, place: usize) -> (&'static str, String) {
-    let past = Past::before(track, track.len());
+fn in_unpacked_times(track: &TrackFiles, scale: u32, place: usize) -> (&'static str, String) {
+    let past = Past::before(track, usize::MAX);
     let ms = |tick| milliseconds(scale, tick).unwrap_or(u64::MAX);
     let last = Clock(LARGEST_MS.into());
     let Some(seen) = past.cues.get(place) else {

@@ -194,7 +194,7 @@ mod tests {
             "vlab, vlab: a second vlab stands in the entry; the first is at byte 16",
             "free, vttC 'WEBVTT', vttC: a second vttC stands in the entry; the first is at byte 24",
             "vlab 'a': the entry has no vttC",
-            "vttC 'WEB': the configuration does not begin with WEBVTT (it ends at byte 27 of the \
+            "vttC 'WEB': the configuration ends within WEBVTT, with which it begins (it ends at byte 27 of the \
              entry)",
             "vttC 'WEBVTT' FF: the configuration's byte 6 is not UTF-8 (byte 30 of the entry)",
             "vlab 'a' 0D: the label ends in a line end (it ends at byte 26 of the entry)",

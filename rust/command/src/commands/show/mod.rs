@@ -152,8 +152,11 @@ fn run(raw: &[OsString]) -> Result<(), Failure> {
         }
     }
     let Answer { text, failure } = (form.show)(&mut args)?;
-    put(&args, text.into_bytes())?;
-    failure.map_or(Ok(()), Err)
+    match (put(&args, text.into_bytes()), failure) {
+        // Whether a track differs does not hang on who reads what is printed.
+        (Ok(()) | Err(Failure::Closed), Some(differs)) => Err(differs),
+        (done, _) => done,
+    }
 }
 
 /// Prints what is shown, or writes it into the file that the command line names.
