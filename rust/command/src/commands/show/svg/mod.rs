@@ -179,13 +179,19 @@ fn sample_box(plan: &Plan, scale: u32, index: usize, sample: &TrackSample) -> St
         cues.join("\n")
     );
     let width = (right - x).max(THIN);
-    let rows = [(index.to_string(), 17.0), (cues.join("; "), 35.0)].map(|(text, y)| {
+    let empty = sample.cues().next().is_none();
+    let payloads: Vec<String> = sample.cues().map(|cue| glimpse(cue.payload)).collect();
+    let texts = if empty {
+        "empty".into()
+    } else {
+        payloads.join(" / ")
+    };
+    let rows = [(index.to_string(), 17.0), (texts, 35.0)].map(|(text, y)| {
         let text = cut(&text, width - 2.0 * PAD, SIZE);
         text.map_or("".into(), |text| {
             writing(x + PAD, plan.boxes + y, BOX_TEXT, &text)
         })
     });
-    let empty = sample.cues().next().is_none();
     let shape = Shape {
         x,
         y: plan.boxes,
