@@ -1,4 +1,4 @@
-//! Bytes of inputs and names of files, escaped so that they cannot drive a terminal.
+//! Bytes of inputs and names of files, escaped so that they cannot drive a terminal; counts.
 
 use std::ffi::OsStr;
 use std::fmt::{self, Display, Write};
@@ -60,6 +60,11 @@ pub fn is_plain(letter: char) -> bool {
     // The standard library knows which characters can be printed. Behind a letter it leaves
     // accents as they are.
     String::from_iter(['a', letter]).escape_debug().count() == 2
+}
+
+/// `1 byte`, `2 bytes`.
+pub fn count(many: usize, what: &str) -> String {
+    format!("{many} {what}{}", if many == 1 { "" } else { "s" })
 }
 
 #[cfg(test)]

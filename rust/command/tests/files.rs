@@ -7,11 +7,10 @@ use std::fs::{self, File, Permissions};
 use std::os::unix::ffi::OsStrExt;
 use std::os::unix::fs::{chown, symlink, PermissionsExt};
 use std::os::unix::net::UnixListener;
-use std::os::unix::process::CommandExt;
-use std::process::{Command, Stdio};
+use std::process::Stdio;
 
 use captions::{CueList, ListedCue};
-use common::{list, saws, Folder, CAPTIONS};
+use common::{list, saws, Folder, CAPTIONS, NOBODY};
 
 const TIMES: &str = "--scale 1000 --t 20000";
 
@@ -105,14 +104,21 @@ fn sockets_cannot_be_read() {
 
 #[test]
 fn files_without_permission() {
-    let folder = whole();
-    let path = folder.path("list.rec");
-    fs::set_permissions(&path, Permissions::from_mode(0o000)).expect("permissions");
-    if File::open(&path).is_ok() {
-        return; // Nothing is forbidden to root.
+    for (name, line) in [
+        ("list.rec", format!("check list track {TIMES}")),
+        ("list.pool", format!("pack list out {TIMES}")),
+        ("track.samples", "unpack track out --scale 1000".into()),
+        ("track.entry", "judge entry track.entry".into()),
+        ("saws.vtt", "from-vtt saws.vtt out".into()),
+    ] {
+        let folder = whole();
+        fs::set_permissions(folder.path(name), Permissions::from_mode(0o000)).expect("permissions");
+        let before = folder.names();
+        let said = folder.run_without_rights(&line).trouble();
+        let words = format!("captions: {name}: Permission denied");
+        assert!(said.starts_with(&words), "{said}");
+        assert_eq!(folder.names(), before);
     }
-    let said = folder.run(&format!("check list track {TIMES}")).trouble();
-    assert!(said.contains("Permission denied"), "{said}");
 }
 
 #[test]
@@ -457,53 +463,32 @@ fn a_terminal_gets_no_file_that_could_drive_it() {
 fn a_file_that_must_not_be_written_stays() {
     let folder = whole();
     folder.put("old.pool", "old");
-    fs::set_permissions(folder.path("old.pool"), Permissions::from_mode(0o444))
-        .expect("permissions");
-    if File::options()
-        .append(true)
-        .open(folder.path("old.pool"))
-        .is_ok()
-    {
-        return; // Nothing is forbidden to root.
-    }
+    let path = folder.path("old.pool");
+    fs::set_permissions(&path, Permissions::from_mode(0o444)).expect("permissions");
     let before = folder.names();
-    let said = folder.run("from-vtt saws.vtt old").trouble();
+    let said = folder.run_without_rights("from-vtt saws.vtt old").trouble();
     assert!(
         said.starts_with("captions: old.pool: Permission denied"),
         "{said}"
     );
-    assert_eq!(
-        (folder.names(), folder.get("old.pool")),
-        (before, b"old".to_vec())
-    );
+    assert_eq!(folder.names(), before);
+    assert_eq!(folder.get("old.pool"), b"old");
 }
 
 #[test]
 fn another_s_file_in_a_sticky_folder_stays() {
     let folder = whole();
-    let (user, sticky) = (65_534, Permissions::from_mode(0o1777));
-    if fs::set_permissions(folder.path(""), sticky).is_err() {
-        return;
-    }
-    let ours = folder.path("old.rec");
     folder.put("old.rec", "old");
     folder.put("old.pool", "old");
-    fs::copy(CAPTIONS, folder.path("captions")).expect("a copy");
-    fs::set_permissions(folder.path("old.pool"), Permissions::from_mode(0o666))
-        .expect("permissions");
-    if chown(&ours, Some(user), None).is_err() {
+    let open = Permissions::from_mode(0o666);
+    fs::set_permissions(folder.path("old.pool"), open).expect("permissions");
+    fs::set_permissions(folder.path(""), Permissions::from_mode(0o1777)).expect("permissions");
+    if chown(folder.path("old.rec"), Some(NOBODY), None).is_err() {
         return; // Only root gives files away.
     }
     // In such a folder everybody makes files, and nobody replaces another's.
-    let mut command = Command::new(folder.path("captions"));
-    command
-        .args(["from-vtt", "saws.vtt", "old"])
-        .current_dir(folder.path(""))
-        .uid(user);
     let before = folder.names();
-    let run = command.output().expect("it runs");
-    let said = String::from_utf8(run.stderr).expect("a text");
-    assert_eq!(run.status.code(), Some(2), "{said}");
+    let said = folder.run_without_rights("from-vtt saws.vtt old").trouble();
     assert!(
         said.starts_with("captions: old.pool: permission denied"),
         "{said}"

@@ -10,6 +10,7 @@ use crate::args::Args;
 use crate::failure::Failure;
 use crate::files::{List, TrackFiles};
 use crate::output::print;
+use crate::shown::count;
 use crate::words;
 
 pub const COMMAND: Command = Command {
@@ -51,6 +52,7 @@ fn run(raw: &[OsString]) -> Result<(), Failure> {
         &track.samples,
     );
     checked.map_err(|fault| words::check(&list, &track, scale, t, &fault))?;
-    let (cues, samples) = (list.len(), track.table.len() / ROW_BYTES);
-    print(format!("accepted: {cues} cues in {samples} samples\n").as_bytes())
+    let samples = count(track.table.len() / ROW_BYTES, "sample");
+    let cues = count(list.len(), "cue");
+    print(format!("accepted: {cues} in {samples}\n").as_bytes())
 }

@@ -7,6 +7,7 @@ use crate::args::Args;
 use crate::failure::Failure;
 use crate::files::List;
 use crate::output::Outputs;
+use crate::shown::count;
 
 pub const COMMAND: Command = Command {
     name: "from-vtt",
@@ -33,10 +34,11 @@ fn run(raw: &[OsString]) -> Result<(), Failure> {
     let (from, to) = (args.operand("FILE")?, args.operand("NAME")?);
     args.end()?;
     let list = List::read_vtt(&from)?;
-    let (cues, records, pool) = (list.len(), list.records.len(), list.pool.len());
+    let cues = count(list.len(), "cue");
+    let (records, pool) = (list.records.len(), list.pool.len());
     let mut outputs = Outputs::default();
     list.stage(&to, &mut outputs)?;
     outputs.report(&format!(
-        "{cues} cues: {records} bytes of records, {pool} of pool\n"
+        "{cues}: {records} bytes of records, {pool} of pool\n"
     ))
 }

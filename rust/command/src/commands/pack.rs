@@ -13,6 +13,7 @@ use crate::bytes::be32;
 use crate::failure::Failure;
 use crate::files::{read_header, track_base, with, List, MOST};
 use crate::output::{Outputs, STREAM};
+use crate::shown::count;
 use crate::words;
 
 pub const COMMAND: Command = Command {
@@ -101,9 +102,10 @@ fn label_of(name: &OsStr) -> String {
 }
 
 fn report(list: &List, table: &[u8], samples: &[u8], entry: &[u8]) -> String {
-    let (cues, count) = (list.len(), table.len() / ROW_BYTES);
+    let rows = count(table.len() / ROW_BYTES, "sample");
+    let cues = count(list.len(), "cue");
     let (table, samples, entry) = (table.len(), samples.len(), entry.len());
-    format!("{cues} cues in {count} samples: {table} bytes of table, {samples} of samples, {entry} of entry\n")
+    format!("{cues} in {rows}: {table} bytes of table, {samples} of samples, {entry} of entry\n")
 }
 
 /// Warns of the first sample whose duration players take for a negative number.

@@ -11,6 +11,7 @@ use crate::args::Args;
 use crate::failure::Failure;
 use crate::files::{read_header, List, VTT_SCALE};
 use crate::output::{Outputs, STREAM};
+use crate::shown::count;
 use crate::words;
 
 pub const COMMAND: Command = Command {
@@ -42,7 +43,8 @@ fn run(raw: &[OsString]) -> Result<(), Failure> {
     args.end()?;
     let list = List::read(&from)?;
     let file = vtt_file(&list, args.value("--header"))?;
-    let report = format!("{} cues, {} bytes\n", list.len(), file.len());
+    let (cues, bytes) = (count(list.len(), "cue"), file.len());
+    let report = format!("{cues}, {bytes} bytes\n");
     let mut outputs = Outputs::default();
     outputs.add(&to, file)?;
     match to == STREAM {
@@ -80,10 +82,11 @@ fn change(list: &List, file: &[u8]) -> Option<String> {
         }
     };
     let cues = CueListRef::read(VTT_SCALE, LARGEST_MS, &list.records, &list.pool).ok()?;
-    let (count, more) = (cues.len(), again.len());
-    if count != more {
+    let (has, more) = (cues.len(), again.len());
+    if has != more {
         return Some(format!(
-            "reading this file gives {more} cues, not {count}: the header holds some"
+            "reading this file gives {}, not {has}: the header holds some",
+            count(more, "cue")
         ));
     }
     let same = |cue: ListedCue, back: ListedCue| cue == ListedCue { id: cue.id, ..back };

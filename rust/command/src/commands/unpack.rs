@@ -10,6 +10,7 @@ use crate::args::Args;
 use crate::failure::Failure;
 use crate::files::{is_vtt, List, TrackFiles};
 use crate::output::{Outputs, STREAM};
+use crate::shown::count;
 use crate::time::Clock;
 use crate::words;
 
@@ -55,14 +56,14 @@ fn run(raw: &[OsString]) -> Result<(), Failure> {
         pool,
         header: None,
     };
-    let cues = list.len();
+    let cues = count(list.len(), "cue");
     let mut outputs = Outputs::default();
     if is_vtt(&to) {
         outputs.add(&to, vtt_file(&list, header)?)?;
     } else {
         list.stage(&to, &mut outputs)?;
     }
-    let report = format!("{cues} cues, T {t} ms ({})\n", Clock(t.into()));
+    let report = format!("{cues}, T {t} ms ({})\n", Clock(t.into()));
     if to == STREAM {
         outputs.commit()?;
         say(&report);

@@ -4,7 +4,7 @@ use std::iter;
 
 use captions::{step, BoxAt};
 
-use crate::shown::Shown;
+use crate::shown::{count, Shown};
 
 /// The bytes of a box's header, and the smallest size of a box.
 const HEADER: usize = 8;
@@ -132,11 +132,6 @@ pub fn with_byte(why: &str, text: &[u8], offset: usize, from: usize, whole: &str
         "{why} ({at}byte {} of {whole})",
         from.saturating_add(offset)
     )
-}
-
-/// `1 byte`, `2 bytes`.
-pub fn count(many: usize, what: &str) -> String {
-    format!("{many} {what}{}", if many == 1 { "" } else { "s" })
 }
 
 /// The number of two bytes at a place, if they are there.

@@ -335,48 +335,43 @@ mod tests {
         assert_eq!(said("a\nb\n00:00.000 --> 00:01.000"), other);
     }
 
+    /// Looks whether each timing line is refused with its hint, where ' stands for ".
+    fn each_says(hints: &[(&str, &str)]) {
+        for (line, hint) in hints {
+            let hint = hint.replace('\'', "\"");
+            let words = format!("19 3: \"{line}\" is no timing line: {hint}");
+            assert_eq!(said(line), words);
+        }
+    }
+
     #[test]
-    fn timing_lines() {
-        let hints = [
-            (
-                "00:00,000 --> 00:01,000",
-                "a comma stands for the dot of 00:00,000",
-            ),
-            (
-                "00:00.000 --> 00:01,000",
-                "a comma stands for the dot of 00:01,000",
-            ),
-            (
-                "Wait, what --> 00:01.000",
-                "'Wait, what' is not hh:mm:ss.mmm or mm:ss.mmm",
-            ),
-            ("00:00.000-->00:01.000", "a space is missing beside the -->"),
-            ("-->", "a space is missing beside the -->"),
+    fn blanks_of_a_timing_line() {
+        let missing = "a space is missing beside the -->";
+        each_says(&[
+            ("00:00.000-->00:01.000", missing),
+            ("00:00.000 -->00:01.000", missing),
+            ("-->", missing),
             (
                 " 00:00.000 --> 00:01.000",
                 "a blank stands in front of the first time",
             ),
-            (
-                "0:00.000 --> 0:01.000",
-                "'0:00.000' is not hh:mm:ss.mmm or mm:ss.mmm",
-            ),
-            (
-                "00:00.000 --> 00:60.000",
-                "'00:60.000' is not hh:mm:ss.mmm or mm:ss.mmm",
-            ),
-            ("00:00.000 --> ", "'' is not hh:mm:ss.mmm or mm:ss.mmm"),
-            (
-                "00:00.000 --> 00:01.000a b",
-                "'00:01.000a' is not hh:mm:ss.mmm or mm:ss.mmm",
-            ),
+        ]);
+    }
+
+    #[test]
+    fn times_of_a_timing_line() {
+        let comma = "a comma stands for the dot of";
+        let form = "is not hh:mm:ss.mmm or mm:ss.mmm";
+        let hints = [
+            ("00:00,000 --> 00:01,000", format!("{comma} 00:00,000")),
+            ("00:00.000 --> 00:01,000", format!("{comma} 00:01,000")),
+            ("Wait, what --> 00:01.000", format!("'Wait, what' {form}")),
+            ("0:00.000 --> 0:01.000", format!("'0:00.000' {form}")),
+            ("00:00.000 --> 00:60.000", format!("'00:60.000' {form}")),
+            ("00:00.000 --> ", format!("'' {form}")),
+            ("00:00.000 --> 00:01.000a b", format!("'00:01.000a' {form}")),
         ];
-        for (line, hint) in hints {
-            let hint = hint.replace('\'', "\"");
-            assert_eq!(
-                said(line),
-                format!("19 3: \"{line}\" is no timing line: {hint}")
-            );
-        }
+        each_says(&hints.each_ref().map(|(line, hint)| (*line, &hint[..])));
         let escaped = said("\u{1b}\u{202e} --> 1");
         assert!(
             escaped.starts_with("19 3: \"\\u{1b}\\u{202e} --> 1\" is"),

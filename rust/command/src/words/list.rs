@@ -5,10 +5,10 @@ use captions::limits::{MOST_CUES, RECORD_BYTES};
 use captions::wvtt::{judge_identifier, judge_payload};
 use captions::{judge_list, tick, Reason, Refusal};
 
-use super::boxes::count;
 use super::text::{bad_text, too_long, Rule};
 use crate::bytes::{be16, be32};
 use crate::files::List;
+use crate::shown::count;
 use crate::time::Clock;
 
 /// The kind of a refusal's place in a list, and what is wrong there.

@@ -78,50 +78,59 @@ mod tests {
         bad_text("text", rule, text, judged.expect_err("a bad text").offset)
     }
 
-    #[test]
-    fn each_fault_has_its_words() {
-        use Rule::*;
-        for (rule, text, words) in [
-            (Line, &b"ab\xff"[..], "the text's byte 2 is not UTF-8"),
-            (Line, b"a-->", "the text's byte 3 ends a -->"),
-            (Line, b"a\nb", "the text's byte 1 is a line end"),
-            (Line, b"\0", "the text's byte 0 is a zero byte"),
-            (Line, b"a\xc3", "the text ends within a character"),
-            (Payload, b"\xed\xa0\x80", "the text's byte 1 is not UTF-8"),
-            (Payload, b"\n", "the text's byte 0 is a line end in front"),
-            (Payload, b"a\n\nb", "the text's byte 2 ends an empty line"),
-            (Payload, b"a\r\r", "the text's byte 2 ends an empty line"),
-            (Payload, b"a\r\n", "the text ends in a line end"),
-            (Payload, b"Caf\xe9\nb", "the text's byte 4 is not UTF-8"),
-            (Payload, b"Caf\xc3\r\nb", "the text's byte 4 is not UTF-8"),
-            (Payload, b"-->", "the text's byte 2 ends a -->"),
-            (Payload, b"a\0", "the text's byte 1 is a zero byte"),
-            (
-                Configuration,
-                b"WEB",
-                "the text ends within WEBVTT, with which it begins",
-            ),
-            (
-                Configuration,
-                b"",
-                "the text ends within WEBVTT, with which it begins",
-            ),
-            (
-                Configuration,
-                b"webvtt",
-                "the text's byte 0 is not that of WEBVTT, with which it begins",
-            ),
-            (Configuration, b"WEBVTT\n", "the text ends in a line end"),
-            (
-                Configuration,
-                b"WEBVTT\x80",
-                "the text's byte 6 is not UTF-8",
-            ),
-            (Label, b"x\r", "the text ends in a line end"),
-            (Label, b"\xf0\x9f", "the text ends within a character"),
-            (Label, b"\xf5", "the text's byte 0 is not UTF-8"),
-        ] {
-            assert_eq!(said(rule, text), words);
+    /// Looks whether each text is refused with its words.
+    fn each_says(rule: Rule, texts: &[(&[u8], &str)]) {
+        for (text, words) in texts {
+            assert_eq!(said(rule, text), format!("the text{words}"));
         }
+    }
+
+    #[test]
+    fn lines_and_labels() {
+        let lines = [
+            (&b"ab\xff"[..], "'s byte 2 is not UTF-8"),
+            (b"a-->", "'s byte 3 ends a -->"),
+            (b"a\nb", "'s byte 1 is a line end"),
+            (b"\0", "'s byte 0 is a zero byte"),
+            (b"a\xc3", " ends within a character"),
+        ];
+        each_says(Rule::Line, &lines);
+        let labels = [
+            (&b"x\r"[..], " ends in a line end"),
+            (b"\xf0\x9f", " ends within a character"),
+            (b"\xf5", "'s byte 0 is not UTF-8"),
+        ];
+        each_says(Rule::Label, &labels);
+    }
+
+    #[test]
+    fn payloads() {
+        let payloads = [
+            (&b"\xed\xa0\x80"[..], "'s byte 1 is not UTF-8"),
+            (b"\n", "'s byte 0 is a line end in front"),
+            (b"a\n\nb", "'s byte 2 ends an empty line"),
+            (b"a\r\r", "'s byte 2 ends an empty line"),
+            (b"a\r\n", " ends in a line end"),
+            (b"Caf\xe9\nb", "'s byte 4 is not UTF-8"),
+            (b"Caf\xc3\r\nb", "'s byte 4 is not UTF-8"),
+            (b"-->", "'s byte 2 ends a -->"),
+            (b"a\0", "'s byte 1 is a zero byte"),
+        ];
+        each_says(Rule::Payload, &payloads);
+    }
+
+    #[test]
+    fn configurations() {
+        let configurations = [
+            (&b"WEB"[..], " ends within WEBVTT, with which it begins"),
+            (b"", " ends within WEBVTT, with which it begins"),
+            (
+                b"webvtt",
+                "'s byte 0 is not that of WEBVTT, with which it begins",
+            ),
+            (b"WEBVTT\n", " ends in a line end"),
+            (b"WEBVTT\x80", "'s byte 6 is not UTF-8"),
+        ];
+        each_says(Rule::Configuration, &configurations);
     }
 }

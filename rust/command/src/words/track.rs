@@ -6,11 +6,11 @@ use captions::limits::{LARGEST_MS, LARGEST_SCALE, MOST_CUES, MOST_SAMPLES, ROW_B
 use captions::wvtt::{judge_sample, judge_track, Cue, TrackSample};
 use captions::{milliseconds, Reason, Refusal};
 
-use super::boxes::count;
 use super::list::in_times;
 use super::wvtt::in_sample;
 use crate::bytes::be32;
 use crate::files::TrackFiles;
+use crate::shown::count;
 use crate::time::Clock;
 
 /// The kind of a refusal's place in a track, and what is wrong there.

@@ -5,9 +5,9 @@ use std::iter;
 use captions::tx3g::{count_characters, font_at, FontAt};
 use captions::{Reason, Refusal};
 
-use super::boxes::{bad_head, count, four, two, with_byte, Container};
+use super::boxes::{bad_head, four, two, with_byte, Container};
 use super::text::{bad_text, Rule};
-use crate::shown::Shown;
+use crate::shown::{count, Shown};
 
 /// The fields of an entry in front of its boxes, and some of them.
 const ENTRY_FIELDS: usize = 46;

@@ -5,6 +5,8 @@
 use std::ffi::OsStr;
 use std::fs;
 use std::io::Write;
+use std::os::unix::fs::{chown, MetadataExt, PermissionsExt};
+use std::os::unix::process::CommandExt;
 use std::path::{Path, PathBuf};
 use std::process::{self, Command, Output, Stdio};
 use std::sync::atomic::{AtomicUsize, Ordering};
@@ -13,6 +15,9 @@ use captions::{vtt, CueList, ListedCue};
 
 /// The command's binary.
 pub const CAPTIONS: &str = env!("CARGO_BIN_EXE_captions");
+
+/// A user who is not root and owns nothing.
+pub const NOBODY: u32 = 65_534;
 
 /// The example file of the repository.
 pub const SAWS: &str = concat!(env!("CARGO_MANIFEST_DIR"), "/../../examples/vtt/saws.vtt");
@@ -89,6 +94,31 @@ impl Folder {
         let mut command = self.command();
         command.args(args);
         finish(command, input)
+    }
+
+    /// Runs the command as somebody to whom not everything is allowed: another user, if this is
+    /// root. The folder is open to that user.
+    pub fn run_without_rights(&self, line: &str) -> Ran {
+        let tools = Folder::new();
+        let copy = tools.path("captions");
+        // Not by `fs::copy`: a child of another test would hold the file open, and what is open for
+        // writing cannot be run.
+        let copied = Command::new("cp").arg(CAPTIONS).arg(&copy).status();
+        assert!(copied.expect("cp runs").success());
+        let open = fs::Permissions::from_mode(0o777);
+        for folder in [self, &tools] {
+            let mode = fs::metadata(folder.path("")).expect("a folder").mode();
+            if mode & 0o1000 == 0 {
+                fs::set_permissions(folder.path(""), open.clone()).expect("permissions");
+            }
+        }
+        let mut command = Command::new(&copy);
+        command.current_dir(&self.0).args(line.split_whitespace());
+        // Only root gives files away.
+        if chown(&copy, Some(NOBODY), None).is_ok() {
+            command.uid(NOBODY);
+        }
+        finish(command, b"")
     }
 
     /// Runs a line of the shell, in which `captions` is the command.

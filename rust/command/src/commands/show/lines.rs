@@ -4,7 +4,7 @@ use captions::wvtt::{Cue, Entry, Sample, Track, TrackSample};
 use captions::{CueListRef, ListedCue};
 
 use super::timeline::{Timeline, Verdict};
-use crate::shown::Shown;
+use crate::shown::{count, Shown};
 use crate::time::{clock_of, Clock};
 
 /// What stands behind the first sample that is wrong.
@@ -60,11 +60,12 @@ fn differs_at(timeline: &Timeline, index: usize) -> bool {
 }
 
 fn row(scale: u32, index: usize, sample: &TrackSample) -> String {
-    let (duration, bytes) = (sample.duration, sample.bytes().len());
-    let end = clock_of(scale, sample.start_tick + u64::from(duration));
+    let (ticks, bytes) = (sample.duration, sample.bytes().len());
+    let end = clock_of(scale, sample.start_tick + u64::from(ticks));
     let start = clock_of(scale, sample.start_tick);
     let cues = cues(sample.sample).join("; ");
-    format!("{index} {start} --> {end} {duration} ticks, {bytes} bytes: {cues}")
+    let ticks = count(ticks as usize, "tick");
+    format!("{index} {start} --> {end} {ticks}, {bytes} bytes: {cues}")
 }
 
 /// A line for each cue, or `empty`.

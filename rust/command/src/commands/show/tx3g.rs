@@ -7,6 +7,7 @@ use super::json::Json;
 use super::lines::quoted;
 use super::modifiers::Described;
 use crate::failure::Failure;
+use crate::shown::count;
 use crate::words;
 
 /// The display flags with a name of their own.
@@ -111,9 +112,9 @@ impl<'a> SampleBeside<'a> {
         });
         let modifiers = self.sample.modifiers().filter_map(Described::of);
         format!(
-            "text {}, {} characters, {}\ntext box {}, of the {}\n{}{}",
+            "text {}, {}, {}\ntext box {}, of the {}\n{}{}",
             quoted(self.sample.text().to_string().as_bytes()),
-            self.sample.characters(),
+            count(self.sample.characters(), "character"),
             self.encoding(),
             box_words(self.text_box),
             self.box_of,

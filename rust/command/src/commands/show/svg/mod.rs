@@ -12,6 +12,7 @@ use self::plan::{Plan, Wrong, BAR, BOX, LANE, LINE, MARGIN, SIZE};
 use self::text::{cut, glimpse, Units, Xml};
 use super::lines::{cues, texts};
 use super::timeline::{Timeline, Verdict};
+use crate::shown::count;
 use crate::time::{clock_of, Clock};
 
 /// Letters: headings, what is less weighty, on a bar, on a box, of what is right and wrong.
@@ -70,13 +71,9 @@ fn head(plan: &Plan, timeline: &Timeline) -> String {
 
 /// How many cues and samples there are, the scale and T.
 fn facts(timeline: &Timeline) -> String {
-    let counted = |count: usize, what: &str| match count {
-        1 => format!("1 {what}"),
-        _ => format!("{count} {what}s"),
-    };
-    let cues = timeline.list.map(|list| counted(list.len(), "cue"));
-    let samples = timeline.track.map(|track| counted(track.len(), "sample"));
-    let scale = format!("{} ticks a second", timeline.scale);
+    let cues = timeline.list.map(|list| count(list.len(), "cue"));
+    let samples = timeline.track.map(|track| count(track.len(), "sample"));
+    let scale = format!("{} a second", count(timeline.scale as usize, "tick"));
     let t = timeline.t.map(|t| format!("T {}", Clock(t.into())));
     let facts = cues.into_iter().chain(samples).chain([scale]).chain(t);
     facts.collect::<Vec<String>>().join(", ")
@@ -172,8 +169,8 @@ fn sample_box(plan: &Plan, scale: u32, index: usize, sample: &TrackSample) -> St
     let [from, to] = [sample.start_tick, end].map(|tick| clock_of(scale, tick));
     let cues = cues(sample.sample);
     let title = format!(
-        "sample {index}\n{from} --> {to}\n{} ticks from tick {}, {} bytes\n{}",
-        sample.duration,
+        "sample {index}\n{from} --> {to}\n{} from tick {}, {} bytes\n{}",
+        count(sample.duration as usize, "tick"),
         sample.start_tick,
         sample.bytes().len(),
         cues.join("\n")
