@@ -135,7 +135,7 @@ fn bar(plan: &Plan, index: usize, cue: &ListedCue, lane: usize) -> String {
     let [from, to] = [start, end].map(|ms| Clock(ms.into()));
     let texts = texts(cue.identifier, cue.settings, cue.payload);
     let title = format!("cue {index}, ID {}\n{from} --> {to}\n{texts}", cue.id);
-    let written = cut(&glimpse(cue.payload), width - 2.0 * PAD, SIZE);
+    let written = glimpse([cue.payload].into_iter(), width - 2.0 * PAD, SIZE);
     let written = written.map(|text| writing(x + PAD, y + 16.5, BAR_TEXT, &text));
     let shape = Shape {
         x,
@@ -176,18 +176,16 @@ fn sample_box(plan: &Plan, scale: u32, index: usize, sample: &TrackSample) -> St
         cues.join("\n")
     );
     let width = (right - x).max(THIN);
+    let room = width - 2.0 * PAD;
     let empty = sample.cues().next().is_none();
-    let payloads: Vec<String> = sample.cues().map(|cue| glimpse(cue.payload)).collect();
-    let texts = if empty {
-        "empty".into()
-    } else {
-        payloads.join(" / ")
+    let texts = match empty {
+        true => cut("empty", room, SIZE),
+        false => glimpse(sample.cues().map(|cue| cue.payload), room, SIZE),
     };
-    let rows = [(index.to_string(), 17.0), (texts, 35.0)].map(|(text, y)| {
-        let text = cut(&text, width - 2.0 * PAD, SIZE);
-        text.map_or("".into(), |text| {
-            writing(x + PAD, plan.boxes + y, BOX_TEXT, &text)
-        })
+    let rows = [(cut(&index.to_string(), room, SIZE), 17.0), (texts, 35.0)];
+    let rows = rows.map(|(text, y)| {
+        let write = |text: String| writing(x + PAD, plan.boxes + y, BOX_TEXT, &text);
+        text.map_or(String::new(), write)
     });
     let shape = Shape {
         x,

@@ -34,15 +34,24 @@ impl Display for Xml<'_> {
     }
 }
 
-/// The beginning of a text as a bar has it: line ends and tabs are blanks, and quotes stand
-/// without a `\`.
-pub fn glimpse(text: &str) -> String {
-    let shown = text.chars().map(|letter| match letter {
+/// As much of some texts as a bar or a box has room for: line ends and tabs are blanks, and quotes
+/// stand without a `\`. A sample may hold very many, so no more is read than could fit.
+pub fn glimpse<'a>(texts: impl Iterator<Item = &'a str>, room: f64, size: f64) -> Option<String> {
+    let most = (room / (NARROWEST * size)).max(0.0) as usize + 1;
+    let between = |index| if index == 0 { "" } else { " / " };
+    let texts = texts.take(most).enumerate();
+    let parts = texts.flat_map(|(index, text)| [between(index), text]);
+    let letters = parts.flat_map(str::chars).take(most);
+    let shown: String = letters.map(shown).collect();
+    cut(&shown, room, size)
+}
+
+fn shown(letter: char) -> String {
+    match letter {
         '\n' | '\r' | '\t' => " ".into(),
         '"' | '\\' => letter.to_string(),
         _ => Shown::text(letter.encode_utf8(&mut [0; 4])).to_string(),
-    });
-    shown.collect()
+    }
 }
 
 /// As much of a text as there is room for, with an ellipsis where it is cut. Nothing, where that
@@ -87,10 +96,15 @@ pub fn wrap(text: &str, room: f64, size: f64, most: usize) -> Vec<String> {
     lines
 }
 
+/// The width of the narrowest letters, for a size of 1.
+const NARROWEST: f64 = 0.4;
+
 /// About how wide a letter is, for a size of 1: at least what the wider of the common fonts have.
 fn em(letter: char) -> f64 {
     match letter {
-        ' ' | '!' | '\'' | '(' | ')' | ',' | '-' | '.' | '/' | ':' | ';' | 'I' | '[' | ']' => 0.4,
+        ' ' | '!' | '\'' | '(' | ')' | ',' | '-' | '.' | '/' | ':' | ';' | 'I' | '[' | ']' => {
+            NARROWEST
+        }
         'f' | 'i' | 'j' | 'l' | 'r' | 't' | '|' => 0.42,
         '%' | '@' | 'M' | 'W' | 'm' | 'w' => 1.0,
         'A'..='Z' | '#' | '&' | '+' | '<' | '=' | '>' | '~' => 0.84,
@@ -125,7 +139,21 @@ mod tests {
         assert_eq!(cut("abcdefgh", 40.0, 10.0), Some("abcd\u{2026}".into()));
         assert_eq!(cut("abcdefgh", 20.0, 10.0), None);
         assert_eq!(cut("日本語日本語", -1.0, 10.0), None);
-        assert_eq!(glimpse("a\nb\"\\\u{1b}"), "a b\"\\\\u{1b}");
+    }
+
+    #[test]
+    fn texts_are_joined_as_far_as_there_is_room() {
+        let seen = |texts: &[&str], room| glimpse(texts.iter().copied(), room, 10.0);
+        let whole = seen(&["a\nb\"\\\u{1b}"], 999.0);
+        assert_eq!(whole.as_deref(), Some("a b\"\\\\u{1b}"));
+        assert_eq!(seen(&["ab", "", "c"], 99.0).as_deref(), Some("ab /  / c"));
+        assert_eq!(seen(&["abcdefgh"], 40.0), cut("abcdefgh", 40.0, 10.0));
+        // However long it is, it ends as if all of it were read.
+        for room in 0..200 {
+            let (room, dots) = (f64::from(room), ".".repeat(1000));
+            assert_eq!(seen(&[&dots], room), cut(&dots, room, 10.0), "{room}");
+        }
+        assert_eq!((seen(&[], 99.0), seen(&["abcd"], -9.0)), (None, None));
     }
 
     #[test]
