@@ -13,4 +13,4 @@ pub use pack::{
 };
 pub use sample::{judge_sample, next_cue, Cue, CueAt, Cues, Sample};
 pub use texts::{judge_configuration, judge_identifier, judge_label, judge_payload};
-pub use track::{Track, TrackSample, TrackSamples};
+pub use track::{Track, TrackRef, TrackSample, TrackSamples};

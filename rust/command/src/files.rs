@@ -8,7 +8,6 @@ use std::path::Path;
 use std::sync::atomic::{AtomicBool, Ordering};
 
 use captions::limits::{MOST_CUES, MOST_SAMPLES, RECORD_BYTES, ROW_BYTES};
-use captions::wvtt::{Sample, TrackSample};
 use captions::{vtt, Reason, Refusal};
 
 use crate::bytes::{be16, be32};
@@ -18,9 +17,8 @@ use crate::output::{Outputs, STREAM};
 use crate::shown::Shown;
 use crate::words;
 
-/// The most bytes of a file that are held: more than ten times the largest list, and hundreds of
-/// times an honest track.
-pub const MOST: u64 = 64 << 20;
+/// The most bytes of a file that are held: a track of 65,536 samples of 4 KiB.
+pub const MOST: u64 = 256 << 20;
 
 /// The scale at which a WebVTT file is read and written.
 pub const VTT_SCALE: u32 = 1000;
@@ -129,23 +127,6 @@ impl TrackFiles {
         let bytes = rows.map(|row| u64::from(be32(row, 4))).sum::<u64>() + 1;
         let samples = read_part(&with(&name, ".samples"), if fits { bytes } else { 0 })?;
         Ok(TrackFiles { table, samples })
-    }
-
-    /// The samples and their times, up to the first that is not good.
-    pub fn samples(&self) -> impl Iterator<Item = TrackSample<'_>> {
-        let (mut rest, mut start_tick) = (&self.samples[..], 0);
-        let rows = self.table.chunks_exact(ROW_BYTES);
-        rows.map_while(move |row| {
-            let (sample, behind) = rest.split_at_checked(be32(row, 4) as usize)?;
-            let sample = TrackSample {
-                start_tick,
-                duration: be32(row, 0),
-                sample: Sample::read(sample).ok()?,
-            };
-            rest = behind;
-            start_tick += u64::from(sample.duration);
-            Some(sample)
-        })
     }
 }
 

@@ -43,13 +43,17 @@ pub fn last_block(file: &[u8]) -> usize {
     empty.last().map_or(1, |(index, _)| index + 2)
 }
 
+/// Where the first `-->` of a line begins.
+pub fn arrow_in(line: &[u8]) -> Option<usize> {
+    line.windows(3).position(|part| part == b"-->")
+}
+
 /// Whether the times of a timing line are whole in the beginning of a file: another line follows,
 /// or a blank stands behind them. The line counts from 1.
 pub fn has_whole_times(start: &[u8], number: usize) -> bool {
     let mut rest = lines(start).skip(number.saturating_sub(1));
     let line = rest.next().map_or(&b""[..], |line| &start[line]);
-    let arrow = line.windows(3).position(|part| part == b"-->");
-    let behind = arrow.map_or(&b""[..], |arrow| line[arrow + 3..].trim_ascii_start());
+    let behind = arrow_in(line).map_or(&b""[..], |arrow| line[arrow + 3..].trim_ascii_start());
     rest.next().is_some() || behind.iter().any(|byte| b" \t".contains(byte))
 }
 

@@ -16,25 +16,20 @@ mod words;
 
 use std::env;
 use std::ffi::OsString;
-use std::io::{self, Write};
 use std::process::ExitCode;
 
 use failure::Failure;
+use output::say;
 
 fn main() -> ExitCode {
     let args: Vec<OsString> = env::args_os().skip(1).collect();
     match commands::run(&args) {
         Ok(()) => ExitCode::SUCCESS,
         Err(failure) => {
-            say(&failure);
+            if !matches!(failure, Failure::Closed) {
+                say(&failure);
+            }
             ExitCode::from(failure.status())
         }
-    }
-}
-
-/// Prints a failure on standard error. Where that cannot be written, the exit status has to do.
-fn say(failure: &Failure) {
-    if !matches!(failure, Failure::Closed) {
-        let _ = writeln!(io::stderr(), "{failure}");
     }
 }

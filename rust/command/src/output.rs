@@ -1,6 +1,7 @@
 //! What a command writes: first beside its place, and renamed when all of it is there.
 
 use std::ffi::{OsStr, OsString};
+use std::fmt::Display;
 use std::fs::{self, File, Metadata};
 use std::io::{self, ErrorKind, IsTerminal, Write};
 use std::os::unix::fs::MetadataExt;
@@ -179,4 +180,9 @@ pub fn print(bytes: &[u8]) -> Result<(), Failure> {
         Err(why) => Err(Failure::File(format!("standard output: {why}"))),
         Ok(()) => Ok(()),
     }
+}
+
+/// Prints a line on standard error. Where that cannot be written, the exit status has to do.
+pub fn say(what: impl Display) {
+    let _ = io::stderr().write_all(format!("{what}\n").as_bytes());
 }

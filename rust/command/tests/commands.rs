@@ -346,6 +346,9 @@ fn a_very_long_sample_is_a_warning() {
     folder
         .run("pack none short --scale 1000000 --t 2147483")
         .done();
+    // 2^31 ticks are the first that are too many.
+    let first = folder.run("pack none long --scale 524288 --t 4096000");
+    assert!(first.err.starts_with("warning: sample 0 lasts 2147483648 "));
 }
 
 #[test]

@@ -1,4 +1,4 @@
-//! The sessions that the documents show, run again.
+//! The examples that the documents show, run again.
 
 mod common;
 
@@ -38,7 +38,7 @@ fn examples() -> Folder {
 }
 
 #[test]
-fn the_session_of_the_command_s_document() {
+fn the_worked_example_of_the_command_s_document() {
     let folder = examples();
     for block in blocks("docs/COMMAND.md", "```console") {
         let lines = block.lines().filter_map(|line| line.strip_prefix("$ "));

@@ -266,19 +266,28 @@ fn what_cannot_be_told_is_not_done() {
         );
         assert!(outputs.iter().all(|name| folder.get(name) == b"old"));
         assert_eq!(folder.names(), before);
-        // Somebody who does not read it wants it done all the same.
-        let closed = folder.shell(&format!("captions {line} >&-"));
-        assert_eq!(closed.status, Some(0), "{}", closed.err);
+    }
+}
+
+#[test]
+fn what_nobody_reads_is_done() {
+    let folder = whole();
+    // By then the reader has gone.
+    let closed = |line: &str| {
+        folder.shell(&format!(
+            "{{ sleep 0.2; captions {line}; echo $? >status; }} | true"
+        ))
+    };
+    for (line, outputs) in old(&folder) {
+        old(&folder);
+        assert_eq!(closed(line).err, "");
+        assert_eq!(folder.get("status"), b"0\n", "{line}");
         assert!(outputs.iter().all(|name| folder.get(name) != b"old"));
     }
     // The verdict does not hang on a reader either.
-    let show = "captions show list list --track track --scale 1000 --t 19999";
-    let closed = folder.shell(&format!("{{ {show}; echo $? >status; }} | true"));
-    assert!(
-        closed.err.contains("refused 16 at sample 9: "),
-        "{}",
-        closed.err
-    );
+    let shown = closed("show list list --track track --scale 1000 --t 19999");
+    let said = "refused 16 at sample 9: ";
+    assert!(shown.err.starts_with(said), "{}", shown.err);
     assert_eq!(folder.get("status"), b"1\n");
 }
 
@@ -318,6 +327,15 @@ fn links_and_permissions_stay() {
         .permissions()
         .mode();
     assert_eq!(mode & 0o777, 0o640);
+    // A link that leads nowhere is no place for a file.
+    symlink("nowhere", folder.path("dead.vtt")).expect("a link");
+    let said = folder.run("to-vtt list dead.vtt").trouble();
+    assert!(
+        said.starts_with("captions: dead.vtt: No such file"),
+        "{said}"
+    );
+    let dead = fs::read_link(folder.path("dead.vtt"));
+    assert!(dead.is_ok() && !folder.path("nowhere").exists());
     // A file may be read and written at once.
     folder.run("to-vtt saws.vtt saws.vtt").done();
     folder.run("judge vtt saws.vtt").done();
@@ -379,7 +397,7 @@ fn very_long_webvtt_files_and_samples() {
             .expect("a hole costs nothing");
     };
     let run = |line: &str| folder.shell(&format!("ulimit -v 900000; captions {line}"));
-    let most = "more than the 67108864 bytes that are held of a file";
+    let most = "more than the 268435456 bytes that are held of a file";
     grow("zeros.vtt");
     assert!(run("judge vtt zeros.vtt")
         .refused()
@@ -396,6 +414,20 @@ fn very_long_webvtt_files_and_samples() {
     grow("early.vtt");
     let words = "refused 18 at line 3: a STYLE block, which is not read\n";
     assert_eq!(run("judge vtt early.vtt").refused(), words);
+    // It is good, and too long to be shown.
+    folder.put("large.sample", b"\0\0\0\x08vtte\x04\0\0\0free");
+    let large = File::options()
+        .append(true)
+        .open(folder.path("large.sample"));
+    large
+        .expect("a file")
+        .set_len((64 << 20) + 8)
+        .expect("a hole");
+    run("judge sample large.sample").done();
+    assert_eq!(
+        run("show sample large.sample").trouble(),
+        "captions: 67108872 bytes are more than the 67108864 that are shown\n"
+    );
     let endless = folder.shell("ulimit -v 900000; yes '' | captions judge vtt -");
     assert!(endless.refused().starts_with("refused 19 at line 1: "));
 }
@@ -428,6 +460,11 @@ fn a_terminal_gets_no_file_that_could_drive_it() {
         ..Default::default()
     };
     folder.put_list("hostile", &list(&[cue]));
+    let overwritten = ListedCue {
+        payload: "Saw off.\rSaw on.",
+        ..cue
+    };
+    folder.put_list("returns", &list(&[overwritten]));
     assert!(folder.run("to-vtt hostile -").done().contains("\u{1b}[2J"));
     // `script` runs a command in a terminal of its own.
     let terminal =
@@ -440,17 +477,16 @@ fn a_terminal_gets_no_file_that_could_drive_it() {
         good.status == Some(0) && good.out.starts_with("WEBVTT\r\n\r\n1\r\n"),
         "{good:?}"
     );
-    for line in ["to-vtt hostile -", "to-vtt hostile /dev/tty"] {
+    for line in [
+        "to-vtt hostile -",
+        "to-vtt hostile /dev/tty",
+        "to-vtt returns -",
+    ] {
         let bad = terminal(line);
-        assert!(
-            bad.status == Some(2) && !bad.out.contains('\u{1b}'),
-            "{bad:?}"
-        );
-        assert!(
-            bad.out
-                .starts_with("captions: the output holds characters that could drive a terminal"),
-            "{bad:?}"
-        );
+        let kept = !bad.out.contains('\u{1b}') && !bad.out.contains("Saw on.");
+        assert!(bad.status == Some(2) && kept, "{bad:?}");
+        let why = "captions: the output holds characters that could drive a terminal";
+        assert!(bad.out.contains(why), "{bad:?}");
     }
     let shown = terminal("show list hostile");
     assert!(

@@ -1,4 +1,4 @@
-//! Tracks that own their bytes.
+//! Tracks that own their bytes, and tracks in lent ones.
 
 use std::iter::FusedIterator;
 
@@ -51,8 +51,7 @@ impl Track {
     /// Unpacks the track; gives the list and T in milliseconds. Refused: as
     /// [`unpack_room`](super::unpack_room).
     pub fn unpack(&self, scale: u32) -> Result<(CueList, u32), Refusal> {
-        let (records, pool, t) = unpack_to_vecs(scale, &self.table, &self.samples)?;
-        Ok((CueList::from_good(records, pool), t))
+        self.view().unpack(scale)
     }
 
     /// Checks that the track shows the list's cues at every tick. Refused: as [`check`].
@@ -62,29 +61,22 @@ impl Track {
         t: u32,
         list: impl Into<CueListRef<'a>>,
     ) -> Result<(), Fault> {
-        let list = list.into();
-        check(
-            scale,
-            t,
-            list.records(),
-            list.pool(),
-            &self.table,
-            &self.samples,
-        )
+        self.view().check(scale, t, list)
     }
 
     /// The samples in order.
     pub fn samples(&self) -> TrackSamples<'_> {
-        TrackSamples {
-            table: &self.table,
-            samples: &self.samples,
-            tick: 0,
-        }
+        self.view().samples()
     }
 
     /// The number of samples.
     pub fn len(&self) -> usize {
-        self.samples().len()
+        self.view().len()
+    }
+
+    /// How many ticks the track lasts: the sum of the durations.
+    pub fn ticks(&self) -> u64 {
+        self.view().ticks()
     }
 
     /// Whether there is no sample.
@@ -106,9 +98,117 @@ impl Track {
     pub fn into_parts(self) -> (Vec<u8>, Vec<u8>) {
         (self.table, self.samples)
     }
+
+    /// The track as one in lent bytes.
+    pub fn view(&self) -> TrackRef<'_> {
+        TrackRef {
+            table: &self.table,
+            samples: &self.samples,
+        }
+    }
 }
 
 impl<'a> IntoIterator for &'a Track {
+    type Item = TrackSample<'a>;
+    type IntoIter = TrackSamples<'a>;
+
+    fn into_iter(self) -> TrackSamples<'a> {
+        self.samples()
+    }
+}
+
+/// A track without fault in lent bytes.
+///
+/// ```
+/// let table = [0, 0, 0, 9, 0, 0, 0, 8];
+/// let track = captions::wvtt::TrackRef::read(&table, b"\0\0\0\x08vtte")?;
+/// let sample = track.samples().next().expect("a sample");
+/// assert_eq!((track.ticks(), sample.cues().count()), (9, 0));
+/// # Ok::<(), captions::Refusal>(())
+/// ```
+#[derive(Clone, Copy, Debug, PartialEq, Eq)]
+pub struct TrackRef<'a> {
+    table: &'a [u8],
+    samples: &'a [u8],
+}
+
+impl<'a> TrackRef<'a> {
+    /// Judges a track. Refused: as [`judge_track`].
+    pub fn read(table: &'a [u8], samples: &'a [u8]) -> Result<Self, Refusal> {
+        judge_track(table, samples)?;
+        Ok(TrackRef { table, samples })
+    }
+
+    /// As [`Track::unpack`].
+    pub fn unpack(self, scale: u32) -> Result<(CueList, u32), Refusal> {
+        let (records, pool, t) = unpack_to_vecs(scale, self.table, self.samples)?;
+        Ok((CueList::from_good(records, pool), t))
+    }
+
+    /// As [`Track::check`].
+    pub fn check<'b>(
+        self,
+        scale: u32,
+        t: u32,
+        list: impl Into<CueListRef<'b>>,
+    ) -> Result<(), Fault> {
+        let (list, TrackRef { table, samples }) = (list.into(), self);
+        check(scale, t, list.records(), list.pool(), table, samples)
+    }
+
+    /// The samples in order.
+    pub fn samples(self) -> TrackSamples<'a> {
+        let TrackRef { table, samples } = self;
+        TrackSamples {
+            table,
+            samples,
+            tick: 0,
+        }
+    }
+
+    /// The number of samples.
+    pub fn len(self) -> usize {
+        self.samples().len()
+    }
+
+    /// How many ticks the track lasts: the sum of the durations.
+    pub fn ticks(self) -> u64 {
+        let durations = self.samples().map(|sample| u64::from(sample.duration));
+        durations.sum()
+    }
+
+    /// Whether there is no sample.
+    pub fn is_empty(self) -> bool {
+        self.table.is_empty()
+    }
+
+    /// The table: duration and size of each sample, four bytes each.
+    pub fn table(self) -> &'a [u8] {
+        self.table
+    }
+
+    /// The bytes of all samples.
+    pub fn sample_bytes(self) -> &'a [u8] {
+        self.samples
+    }
+}
+
+impl<'a> From<&'a Track> for TrackRef<'a> {
+    fn from(track: &'a Track) -> Self {
+        track.view()
+    }
+}
+
+impl From<TrackRef<'_>> for Track {
+    fn from(track: TrackRef<'_>) -> Self {
+        Track {
+            table: track.table.to_vec(),
+            samples: track.samples.to_vec(),
+        }
+    }
+}
+
+impl<'a> IntoIterator for TrackRef<'a> {
     type Item = TrackSample<'a>;
     type IntoIter = TrackSamples<'a>;
 

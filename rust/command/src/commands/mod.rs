@@ -10,10 +10,9 @@ mod unpack;
 
 use std::ffi::OsString;
 use std::fmt::Display;
-use std::io::{self, Write};
 
 use crate::failure::Failure;
-use crate::output::print;
+use crate::output::{print, say};
 use crate::shown::Shown;
 
 /// A command: its name, what it does in a line, its help, and how it is run.
@@ -90,10 +89,5 @@ fn help() -> String {
 
 /// Prints a warning on standard error.
 fn warn(what: impl Display) {
-    say(&format!("warning: {what}\n"));
-}
-
-/// Prints on standard error. Where that cannot be written, the exit status has to do.
-fn say(what: &str) {
-    let _ = io::stderr().write_all(what.as_bytes());
+    say(format!("warning: {what}"));
 }

@@ -5,11 +5,11 @@ use std::ffi::OsString;
 use captions::wvtt;
 
 use super::to_vtt::vtt_file;
-use super::{say, Command};
+use super::Command;
 use crate::args::Args;
 use crate::failure::Failure;
 use crate::files::{is_vtt, List, TrackFiles};
-use crate::output::{Outputs, STREAM};
+use crate::output::{say, Outputs, STREAM};
 use crate::shown::count;
 use crate::time::Clock;
 use crate::words;
@@ -63,11 +63,11 @@ fn run(raw: &[OsString]) -> Result<(), Failure> {
     } else {
         list.stage(&to, &mut outputs)?;
     }
-    let report = format!("{cues}, T {t} ms ({})\n", Clock(t.into()));
+    let report = format!("{cues}, T {t} ms ({})", Clock(t.into()));
     if to == STREAM {
         outputs.commit()?;
         say(&report);
         return Ok(());
     }
-    outputs.report(&report)
+    outputs.report(&format!("{report}\n"))
 }

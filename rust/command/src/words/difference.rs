@@ -2,7 +2,7 @@
 
 use std::collections::HashMap;
 
-use captions::wvtt::{Cue, Sample, TrackSample};
+use captions::wvtt::{Cue, Sample, TrackRef, TrackSample};
 use captions::{tick, CueListRef, ListedCue, Reason};
 
 use super::track::changed_text;
@@ -17,16 +17,14 @@ const SHOWN: usize = 40;
 /// track are good, and the place is the check's.
 pub fn at(list: &List, track: &TrackFiles, scale: u32, t: u32, place: usize) -> String {
     let cues = CueListRef::read(scale, t, &list.records, &list.pool);
-    let Ok(cues) = cues else {
+    let track = TrackRef::read(&track.table, &track.samples);
+    let (Ok(cues), Ok(track)) = (cues, track) else {
         return Reason::Differs.to_string();
     };
     let last = tick(scale, t);
     let when = |tick| format!("tick {tick} ({})", clock_of(scale, tick));
     let Some(sample) = track.samples().nth(place) else {
-        let ticks = track
-            .samples()
-            .map(|sample| u64::from(sample.duration))
-            .sum();
+        let ticks = track.ticks();
         return format!(
             "the track ends at {}, before T, {}",
             when(ticks),

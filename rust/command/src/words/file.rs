@@ -7,7 +7,7 @@ use captions::wvtt::{judge_identifier, judge_payload};
 use captions::{Reason, Refusal};
 
 use super::text::{bad_text, Rule};
-use crate::lines::{header, lines};
+use crate::lines::{arrow_in, header, lines};
 use crate::shown::Shown;
 use crate::time::{parse_clock, Clock};
 
@@ -113,10 +113,6 @@ impl<'a> Around<'a> {
 
 fn holds_arrow(line: &[u8]) -> bool {
     arrow_in(line).is_some()
-}
-
-fn arrow_in(line: &[u8]) -> Option<usize> {
-    line.windows(3).position(|part| part == b"-->")
 }
 
 /// The beginning of a line or a time as it is shown.

@@ -20,18 +20,23 @@ pub fn bad_text(name: &str, rule: Rule, text: &[u8], offset: usize) -> String {
     let what = match text.get(offset) {
         Some(&byte) => bad_byte(rule, text, offset, byte),
         None => {
-            let verb = if name.ends_with('s') { "end" } else { "ends" };
+            let verb = if is_plural(name) { "end" } else { "ends" };
             return format!("the {name} {verb} {}", bad_end(rule, text));
         }
     };
-    let own = if name.ends_with('s') { "'" } else { "'s" };
+    let own = if is_plural(name) { "'" } else { "'s" };
     format!("the {name}{own} byte {offset} {what}")
 }
 
 /// Says that a text is too long: `the payload has 5000 bytes; at most 4095 are allowed`.
 pub fn too_long(name: &str, bytes: usize, limit: usize) -> String {
-    let has = if name.ends_with('s') { "have" } else { "has" };
+    let has = if is_plural(name) { "have" } else { "has" };
     format!("the {name} {has} {bytes} bytes; at most {limit} are allowed")
+}
+
+/// Whether a text's name is one of more: settings.
+fn is_plural(name: &str) -> bool {
+    name.ends_with('s')
 }
 
 fn bad_byte(rule: Rule, text: &[u8], offset: usize, byte: u8) -> &'static str {

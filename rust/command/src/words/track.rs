@@ -3,7 +3,7 @@
 use std::collections::HashMap;
 
 use captions::limits::{LARGEST_MS, LARGEST_SCALE, MOST_CUES, MOST_SAMPLES, ROW_BYTES};
-use captions::wvtt::{judge_sample, judge_track, Cue, TrackSample};
+use captions::wvtt::{judge_sample, Cue, TrackRef, TrackSample};
 use captions::{milliseconds, Reason, Refusal};
 
 use super::list::in_times;
@@ -59,9 +59,9 @@ pub fn in_unpacking(track: &TrackFiles, scale: u32, refusal: &Refusal) -> (&'sta
     if !(1..=LARGEST_SCALE).contains(&scale) {
         return ("place", in_times(scale, 1));
     }
-    if judge_track(&track.table, &track.samples).is_err() {
+    let Ok(track) = TrackRef::read(&track.table, &track.samples) else {
         return in_track(track, refusal);
-    }
+    };
     if refusal.reason == Reason::BadTime {
         return in_unpacked_times(track, scale, refusal.place);
     }
@@ -94,7 +94,7 @@ struct Past<'a> {
 }
 
 impl<'a> Past<'a> {
-    fn before(track: &'a TrackFiles, end: usize) -> Self {
+    fn before(track: TrackRef<'a>, end: usize) -> Self {
         let mut past = Past::default();
         for (index, sample) in track.samples().enumerate().take(end) {
             for cue in sample.cues() {
@@ -185,15 +185,12 @@ pub fn changed_text(cue: &Cue, other: &Cue) -> &'static str {
 }
 
 /// What is wrong with the times of a track that is unpacked: a record's, or T.
-fn in_unpacked_times(track: &TrackFiles, scale: u32, place: usize) -> (&'static str, String) {
+fn in_unpacked_times(track: TrackRef, scale: u32, place: usize) -> (&'static str, String) {
     let past = Past::before(track, usize::MAX);
     let ms = |tick| milliseconds(scale, tick).unwrap_or(u64::MAX);
     let last = Clock(LARGEST_MS.into());
     let Some(seen) = past.cues.get(place) else {
-        let ticks: u64 = track
-            .samples()
-            .map(|sample| u64::from(sample.duration))
-            .sum();
+        let ticks = track.ticks();
         let t = Clock(ms(ticks));
         let what = match ticks {
             0 => "the track has no samples".into(),
@@ -223,6 +220,7 @@ fn in_unpacked_times(track: &TrackFiles, scale: u32, place: usize) -> (&'static 
 #[cfg(test)]
 mod tests {
     use super::*;
+    use captions::wvtt::judge_track;
 
     /// A cue box: an ID if it has one, and a payload.
     fn cue(id: Option<u32>, payload: &str) -> Vec<u8> {

@@ -1,6 +1,6 @@
 //! Lines of lists, tracks, samples and `wvtt` entries.
 
-use captions::wvtt::{Cue, Entry, Sample, Track, TrackSample};
+use captions::wvtt::{Cue, Entry, Sample, TrackRef, TrackSample};
 use captions::{CueListRef, ListedCue};
 
 use super::timeline::{Timeline, Verdict};
@@ -38,7 +38,7 @@ fn record(index: usize, cue: &ListedCue) -> String {
 }
 
 /// A line for each sample, and one for the place where the track ends too early.
-fn put_track(lines: &mut String, timeline: &Timeline, track: &Track) {
+fn put_track(lines: &mut String, timeline: &Timeline, track: TrackRef) {
     lines.extend(track.samples().enumerate().map(|(index, sample)| {
         let mark = if differs_at(timeline, index) {
             MARK

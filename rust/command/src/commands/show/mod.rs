@@ -61,6 +61,9 @@ from the list is shown, and the exit status is 1.
 Example: captions show list saws.vtt --track saws --scale 1000 --t 20000 --svg --out a.svg
 ";
 
+/// The most bytes of samples that are shown. As JSON they take up to twenty times as much memory.
+const MOST_SHOWN: usize = 64 << 20;
+
 /// The options that ask for another shape than lines.
 const SHAPES: [&str; 2] = ["--json", "--svg"];
 
@@ -169,6 +172,16 @@ fn put(args: &Args, bytes: Vec<u8>) -> Result<(), Failure> {
     outputs.commit()
 }
 
+/// Nothing, if samples or an entry are not too long to be shown.
+fn judge_length(bytes: &[u8]) -> Result<(), Failure> {
+    let length = bytes.len();
+    if length <= MOST_SHOWN {
+        return Ok(());
+    }
+    let why = format!("{length} bytes are more than the {MOST_SHOWN} that are shown");
+    Err(Failure::File(why))
+}
+
 fn show_entry(args: &mut Args) -> Result<Answer, Failure> {
     let shape = Shape::of(args)?;
     let name = args.operand("ENTRY")?;
@@ -184,6 +197,7 @@ fn show_entry(args: &mut Args) -> Result<Answer, Failure> {
 fn wvtt_entry(bytes: &[u8], shape: Shape) -> Result<String, Failure> {
     let read = wvtt::Entry::read(bytes);
     let entry = read.map_err(|refusal| words::wvtt_entry(bytes, &refusal))?;
+    judge_length(bytes)?;
     Ok(match shape {
         Shape::Json => objects::entry(&entry).line(),
         _ => lines::entry(&entry),
@@ -193,6 +207,7 @@ fn wvtt_entry(bytes: &[u8], shape: Shape) -> Result<String, Failure> {
 fn tx3g_entry(bytes: &[u8], shape: Shape) -> Result<String, Failure> {
     let read = captions::tx3g::Entry::read(bytes);
     let entry = read.map_err(|refusal| words::tx3g_entry(bytes, &refusal))?;
+    judge_length(bytes)?;
     Ok(match shape {
         Shape::Json => tx3g::entry_object(&entry).line(),
         _ => tx3g::entry_lines(&entry),
@@ -206,6 +221,7 @@ fn show_sample(args: &mut Args) -> Result<Answer, Failure> {
     let bytes = read_file(&name)?;
     let read = wvtt::Sample::read(&bytes);
     let sample = read.map_err(|refusal| words::sample(&bytes, &refusal))?;
+    judge_length(&bytes)?;
     Ok(Answer::good(match shape {
         Shape::Json => objects::sample(sample).line(),
         _ => lines::sample(sample),
@@ -222,6 +238,8 @@ fn show_tx3g(args: &mut Args) -> Result<Answer, Failure> {
     }
     let (entry, sample) = (read_entry(&names[0])?, read_file(&names[1])?);
     let shown = tx3g::SampleBeside::read(&entry, &sample)?;
+    judge_length(&entry)?;
+    judge_length(&sample)?;
     Ok(Answer::good(match shape {
         Shape::Json => shown.object().line(),
         _ => shown.lines(),

@@ -1,6 +1,6 @@
 //! JSON of lists, tracks, samples and `wvtt` entries.
 
-use captions::wvtt::{Cue, Entry, Sample, Track, TrackSample};
+use captions::wvtt::{Cue, Entry, Sample, TrackRef, TrackSample};
 use captions::{CueListRef, ListedCue, Reason};
 
 use super::json::Json;
@@ -55,7 +55,7 @@ fn record((index, cue): (usize, ListedCue)) -> Json {
     ])
 }
 
-fn track<'a>(timeline: &Timeline, track: &'a Track) -> Json<'a> {
+fn track<'a>(timeline: &Timeline, track: TrackRef<'a>) -> Json<'a> {
     let samples = track.samples().enumerate();
     let row = |(index, sample)| row(timeline.scale, index, &sample);
     Json::Object(vec![

@@ -3,10 +3,10 @@
 use std::ffi::OsStr;
 
 use captions::limits::LARGEST_MS;
-use captions::wvtt::{self, Track};
+use captions::wvtt::{self, TrackRef};
 use captions::{judge_list, CueListRef, Fault, Reason};
 
-use super::{lines, objects, svg, Answer, Shape};
+use super::{judge_length, lines, objects, svg, Answer, Shape};
 use crate::args::Args;
 use crate::failure::Failure;
 use crate::files::{List, TrackFiles};
@@ -27,7 +27,7 @@ pub struct Timeline<'a> {
     /// The list.
     pub list: Option<CueListRef<'a>>,
     /// The track.
-    pub track: Option<&'a Track>,
+    pub track: Option<TrackRef<'a>>,
     /// What the check says about both.
     pub verdict: Verdict,
 }
@@ -53,8 +53,7 @@ pub struct Difference {
 impl Timeline<'_> {
     /// How many ticks the track lasts.
     pub fn ticks(&self) -> u64 {
-        let samples = self.track.into_iter().flat_map(Track::samples);
-        samples.map(|sample| u64::from(sample.duration)).sum()
+        self.track.map_or(0, TrackRef::ticks)
     }
 
     fn text(&self, shape: Shape) -> String {
@@ -75,7 +74,7 @@ pub fn show_list(args: &mut Args) -> Result<Answer, Failure> {
         let (scale, t) = (args.need_scale()?, args.need_t()?);
         let names = [named("list", &name), named("track", track)].join(", ");
         let (list, track) = (List::read(&name)?, TrackFiles::read(track)?);
-        return show_both(names, &list, track, (scale, t), shape);
+        return show_both(names, &list, &track, (scale, t), shape);
     }
     let (scale, t) = (args.scale()?.unwrap_or(USUAL_SCALE), args.t()?);
     let list = List::read(&name)?;
@@ -102,12 +101,12 @@ fn named(what: &str, name: &OsStr) -> String {
 fn show_both(
     names: String,
     list: &List,
-    track: TrackFiles,
+    track: &TrackFiles,
     (scale, t): (u32, u32),
     shape: Shape,
 ) -> Result<Answer, Failure> {
-    let said = |fault: &Fault| words::check(list, &track, scale, t, fault);
-    let fault = check(list, &track, scale, t).err();
+    let said = |fault: &Fault| words::check(list, track, scale, t, fault);
+    let fault = check(list, track, scale, t).err();
     if let Some(unread) = fault.filter(|fault| fault.reason() != Reason::Differs) {
         return Err(said(&unread));
     }
@@ -126,7 +125,7 @@ fn show_both(
         scale,
         t: Some(t),
         list: Some(cues),
-        track: Some(&judged(track)?),
+        track: Some(judged(track)?),
         verdict,
     };
     let text = timeline.text(shape);
@@ -151,20 +150,18 @@ pub fn show_track(args: &mut Args) -> Result<Answer, Failure> {
         scale,
         t: None,
         list: None,
-        track: Some(&judged(track)?),
+        track: Some(judged(&track)?),
         verdict: Verdict::Unchecked,
     };
     Ok(Answer::good(timeline.text(shape)))
 }
 
-/// The track of a table and samples, if there is no fault in them.
-fn judged(files: TrackFiles) -> Result<Track, Failure> {
-    if let Err(refusal) = wvtt::judge_track(&files.table, &files.samples) {
-        return Err(words::track(&files, &refusal));
-    }
-    let TrackFiles { table, samples } = files;
-    // It is judged again, and refused no more than before.
-    Track::from_parts(table, samples).map_err(|refusal| Failure::Refused(refusal.to_string()))
+/// The track of a table and samples, if there is no fault in them and it is not too long.
+fn judged(files: &TrackFiles) -> Result<TrackRef<'_>, Failure> {
+    let read = TrackRef::read(&files.table, &files.samples);
+    let track = read.map_err(|refusal| words::track(files, &refusal))?;
+    judge_length(track.sample_bytes())?;
+    Ok(track)
 }
 
 /// Judges a scale, as that of a list without cues.

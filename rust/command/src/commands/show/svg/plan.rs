@@ -1,6 +1,6 @@
 //! Where everything stands in a picture.
 
-use captions::wvtt::Track;
+use captions::wvtt::TrackRef;
 
 use super::axis::Axis;
 use super::lanes::lanes;
@@ -147,7 +147,7 @@ fn wrong<'a>(axis: &Axis, timeline: &'a Timeline) -> Option<Wrong<'a>> {
 }
 
 /// From which tick to which millisecond the track is wrong: the sample, or what is left of T.
-fn stretch(timeline: &Timeline, track: &Track, sample: usize) -> (u64, f64) {
+fn stretch(timeline: &Timeline, track: TrackRef, sample: usize) -> (u64, f64) {
     match track.samples().nth(sample) {
         Some(sample) => {
             let end = sample.start_tick + u64::from(sample.duration);
