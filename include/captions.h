@@ -18,9 +18,9 @@ extern "C" {
 #endif
 
 #define CAPTIONS_VERSION_MAJOR 0
-#define CAPTIONS_VERSION_MINOR 2
+#define CAPTIONS_VERSION_MINOR 3
 #define CAPTIONS_VERSION_PATCH 0
-#define CAPTIONS_VERSION "0.2.0"
+#define CAPTIONS_VERSION "0.3.0"
 
 /* The numbers given back; captions_reason says each in a few words. */
 enum {
@@ -330,9 +330,10 @@ typedef struct CaptionsTx3gSample {
     bool utf16;       /* the text is UTF-16, big-endian; else UTF-8 */
     size_t text_from; /* the text, without the mark FE FF of UTF-16 */
     size_t text_end;
-    size_t modifiers;   /* where the modifier boxes begin */
-    size_t styles;      /* how many styles there are */
-    size_t styles_from; /* where the first stands; 0 where there is no styl */
+    size_t modifiers;      /* where the modifier boxes begin */
+    size_t styles;         /* how many styles there are */
+    size_t styles_from;    /* where the first stands; 0 where there is no styl */
+    bool retired_blinking; /* there is a blnk; which characters it names is not handed out */
 } CaptionsTx3gSample;
 
 /* Judges an entry, then a sample, and reads the sample. */
@@ -393,7 +394,7 @@ CaptionsTextBox captions_tx3g_text_box(const uint8_t *entry, size_t entry_len, c
 
 /* A modifier of a good sample, a refusal, or at the end neither: number 0 and nothing found. Its numbers and what stands from `from` on
    go by the type of its box:
-   styl: count; styles of 12 bytes. hlit, blnk: start, end. hclr: red, green, blue, alpha. krok: start time, count; entries of 8 bytes.
+   styl: count; styles of 12 bytes. hlit: start, end. hclr: red, green, blue, alpha. krok: start time, count; entries of 8 bytes.
    dlay: time. href: start, end; the URL up to `end`, and the alternative text. tbox: the 8 bytes. twrp: the flag. */
 typedef struct CaptionsModifier {
     CaptionsRefusal refusal;
@@ -410,8 +411,8 @@ typedef struct CaptionsModifier {
     size_t next;
 } CaptionsModifier;
 
-/* The first modifier from a place on: `modifiers` of captions_tx3g_read_sample, or the `next` of the one before. A bad header gives 1 or 2; a
-   modifier box that its content does not fill, which a good sample never holds, is passed over. */
+/* The first modifier from a place on: `modifiers` of captions_tx3g_read_sample, or the `next` of the one before. A bad header gives 1 or 2. A
+   blnk, which is retired, is passed over, and so is a modifier box that its content does not fill, which a good sample never holds. */
 CaptionsModifier captions_tx3g_next_modifier(const uint8_t *sample, size_t sample_len, size_t from);
 
 #ifdef __cplusplus

@@ -48,7 +48,7 @@ use Rattle.tx3g_box.specs.declared.Spot.{Spot}
 use Rattle.tx3g_box.specs.declared.Spot.the-variants.{Sample, Entry, BadEntry as BoxEntry, BadSample as BoxSample}
 use Rattle.tx3g_box.specs.TextBox.{bytesAt}
 use Rattle.tx3g_modifiers.specs.declared.Modifier.{Modifier}
-use Rattle.tx3g_modifiers.specs.declared.Modifier.the-variants.{Styles, Highlight, Blink, Colour, Karaoke, Delay, Link, TextBox, Wrap}
+use Rattle.tx3g_modifiers.specs.declared.Modifier.the-variants.{Styles, Highlight, Colour, Karaoke, Delay, Link, TextBox, Wrap}
 use Rattle.tx3g_modifiers.specs.declared.Held.{Held as Modified}
 use Rattle.tx3g_modifiers.specs.declared.Held.the-variants.{One, Refused as NotRead, End as NoMore}
 use Rattle.captions.specs.declared.CaptionsChecked.{CaptionsChecked}
@@ -248,11 +248,11 @@ flatFont Missing = record { found = false; id = 0; «name_from» = 0; «name_end
 -- no sample, why, and who is at fault
 abbrev pub noContent : Refusal → ℕ → CaptionsTx3gSample
 noContent r who =
-    record { refusal = r; who = who; characters = 0; utf16 = false; «text_from» = 0; «text_end» = 0; modifiers = 0; styles = 0; «styles_from» = 0 }
+    record { refusal = r; who = who; characters = 0; utf16 = false; «text_from» = 0; «text_end» = 0; modifiers = 0; styles = 0; «styles_from» = 0; «retired_blinking» = false }
 
 -- what a `tx3g` sample holds; its modifiers begin where its text ends
 abbrev pub flatContent : Content → CaptionsTx3gSample
-flatContent (ContentWhole n t y) =
+flatContent (ContentWhole n t y b) =
     record {
       refusal = nothing;
       who = 0;
@@ -263,6 +263,7 @@ flatContent (ContentWhole n t y) =
       modifiers = t .end;
       styles = y .count;
       «styles_from» = y .from;
+      «retired_blinking» = b;
     }
 flatContent (EntryAtFault r) = noContent r 1
 flatContent (SampleAtFault r) = noContent r 2
@@ -321,11 +322,10 @@ flatSpot e s (BoxSample r) = noBox r 2
 abbrev pub modifierOf : ℕ → ℕ → ℕ → ℕ → ℕ → ℕ → ℕ → ℕ → ℕ → ℕ → CaptionsModifier
 modifierOf k a b c d f e g h n = record { refusal = nothing; found = true; kind = k; first = a; second = b; third = c; fourth = d; from = f; end = e; «alternative_from» = g; «alternative_end» = h; next = n }
 
--- by the type of the box: `styl`, `hlit`, `blnk`, `hclr`, `krok`, `dlay`, `href`, `tbox`, `twrp`
+-- by the type of the box: `styl`, `hlit`, `hclr`, `krok`, `dlay`, `href`, `tbox`, `twrp`
 abbrev pub flatModifier : Modifier → ℕ → CaptionsModifier
 flatModifier (Styles c f) n = modifierOf 0x7374796C c 0 0 0 f 0 0 0 n
 flatModifier (Highlight a b) n = modifierOf 0x686C6974 a b 0 0 0 0 0 0 n
-flatModifier (Blink a b) n = modifierOf 0x626C6E6B a b 0 0 0 0 0 0 n
 flatModifier (Colour a b c d) n = modifierOf 0x68636C72 a b c d 0 0 0 0 n
 flatModifier (Karaoke t c f) n = modifierOf 0x6B726F6B t c 0 0 f 0 0 0 n
 flatModifier (Delay t) n = modifierOf 0x646C6179 t 0 0 0 0 0 0 0 n

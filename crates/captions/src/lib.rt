@@ -185,6 +185,7 @@ pub struct CaptionsTx3gSample {
     pub modifiers: usize,
     pub styles: usize,
     pub styles_from: usize,
+    pub retired_blinking: bool,
 }
 
 #[repr(C)]
@@ -604,6 +605,7 @@ fn no_content(refusal: Refusal, who: u32) -> CaptionsTx3gSample
         modifiers: 0,
         styles: 0,
         styles_from: 0,
+        retired_blinking: false,
     }
 }
 
@@ -615,6 +617,7 @@ fn flat_content(c: Content) -> CaptionsTx3gSample
             characters,
             text,
             styles,
+            retired_blinking,
         } => CaptionsTx3gSample {
             refusal: fault_at(0, 0),
             who: 0,
@@ -625,6 +628,7 @@ fn flat_content(c: Content) -> CaptionsTx3gSample
             modifiers: text.end,
             styles: styles.count as usize,
             styles_from: styles.from,
+            retired_blinking,
         },
         Content::BadEntry(why) => no_content(why, 1),
         Content::BadSample(why) => no_content(why, 2),
@@ -806,7 +810,6 @@ fn flat_modifier(m: Modifier, next: usize) -> CaptionsModifier
     match m {
         Modifier::Styles { count, from } => modifier_of(0x7374796C, count, 0, 0, 0, from, 0, next),
         Modifier::Highlight { start, end } => modifier_of(0x686C6974, start, end, 0, 0, 0, 0, next),
-        Modifier::Blink { start, end } => modifier_of(0x626C6E6B, start, end, 0, 0, 0, 0, next),
         Modifier::Colour {
             red,
             green,
@@ -1145,7 +1148,7 @@ pub extern "C" fn captions_tx3g_font_at(entry: &[u8], at: usize) -> CaptionsFont
     flat_font(tx3g_read::font_at(entry, at))
 }
 
-// A sample beside its entry: its text, where its modifiers and styles stand, and the character count; or whose fault it is.
+// A sample beside its entry: its text, where its modifiers and styles stand, the character count, and whether there is a `blnk`; or whose fault it is.
 #[no_mangle]
 pub extern "C" fn captions_tx3g_read_sample(entry: &[u8], sample: &[u8]) -> CaptionsTx3gSample
     ensures { λ r. ⌜ r ≡ flatContent (contentOf (now (entry .entry)) (now (sample .entry))) ⌝ }
@@ -1193,8 +1196,8 @@ pub extern "C" fn captions_tx3g_text_box<'a>(entry: &'a [u8], sample: &'a [u8]) 
     }
 }
 
-// The first modifier from `from` on, where a box begins, or the refusal of a header before it. By its kind: `styl` count and the styles from `from` on; `hlit`, `blnk` start and end;
-// `hclr` red, green, blue, alpha; `krok` start time, count and the entries; `dlay` time; `href` start, end, URL and alternative text; `tbox` the box; `twrp` the flag.
+// The first modifier from `from` on, where a box begins, or the refusal of a header before it. By its kind: `styl` count and the styles from `from` on; `hlit` start and end;
+// `hclr` red, green, blue, alpha; `krok` start time, count and the entries; `dlay` time; `href` start, end, URL and alternative text; `tbox` the box; `twrp` the flag. A `blnk` is passed over.
 #[no_mangle]
 pub extern "C" fn captions_tx3g_next_modifier(sample: &[u8], from: usize) -> CaptionsModifier
     ensures { λ r. ⌜ r ≡ flatModified (nextModifier (now (sample .entry)) (boxesIn (now (sample .entry)) from (length (now (sample .entry))))) ⌝ }

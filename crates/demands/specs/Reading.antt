@@ -3,11 +3,11 @@
 use Rattle.code_points.specs.CodePoints.{Utf8Is, Utf16Is, CountIs, CountedIs}
 use Rattle.wvtt_cues.specs.Walk.{NextMeans, WalkIsWhole, SampleWhole, SampleSound}
 use Rattle.wvtt_write.specs.ReadBack.{SampleFine, SampleHeld}
-use Rattle.tx3g_modifiers.specs.Exactly.{NextMeans as NextModifierMeans, Exactly}
+use Rattle.tx3g_modifiers.specs.Exactly.{NextMeans as NextModifierMeans, Exactly, NeverBlinks}
 use Rattle.tx3g_style.specs.Only.{OnlyOne}
 use Rattle.wvtt_entry.specs.Held.{EntryHolds}
 use Rattle.wvtt_entry_write.specs.Statements.{ReadsBack, RoomLaw}
-use Rattle.tx3g_read.specs.Statements.{EntryReads, TextIs}
+use Rattle.tx3g_read.specs.Statements.{EntryReads, TextIs, BlinkingIs}
 use Rattle.tx3g_runs.specs.Statements.{WalkBegins, RunIs, PlainIs, WalkEnds}
 
 pub record ReadingMeans : Type 0 where
@@ -27,9 +27,10 @@ pub record ReadingMeans : Type 0 where
   -- a sample that is written is read without fault, and gives its cues back
   pub written : SampleFine
   pub back : SampleHeld
-  -- the walk over a `tx3g` sample hands out its modifiers from left to right; without fault they are exactly its modifier boxes
+  -- the walk over a `tx3g` sample hands out its modifiers from left to right; without fault they are exactly its modifier boxes but `blnk`; no bytes make it hand out a `blnk`
   pub modifiers : NextModifierMeans
   pub exactly : Exactly
+  pub never-blinks : NeverBlinks
   -- at most one style holds a character
   pub style : OnlyOne
   -- a `wvtt` entry is read as its index, the text of its one `vttC` and that of its one `vlab`, if it has one
@@ -41,6 +42,8 @@ pub record ReadingMeans : Type 0 where
   pub tx3g-entry : EntryReads
   -- the text of a `tx3g` sample without fault is what its encoding says, of that many characters
   pub tx3g-text : TextIs
+  -- its answer carries 'retired blinking present' exactly if it has no fault and a `blnk`
+  pub blinking : BlinkingIs
   -- runs lie end to end from character 0 to the text's end; each character has its run's style; a run of the default style is as long as it can be
   pub runs-begin : WalkBegins
   pub runs : RunIs

@@ -2,11 +2,13 @@
 use Prim.Native.Nat.{ℕ}
 use mathlib.Core.Path.{_≡_, refl, sym, _∙_}
 use mathlib.Core.List.{List}
-use mathlib.Core.Bool.{true, false}
+use mathlib.Core.Bool.{Bool, true, false, not}
+use mathlib.Core.Logic.{_≢_}
 use native.Mathlib.Omega.{arith}
 use lib.Dec.{eqb}
 use borrow.Author.Tests.{eq-eqb, ne-eqb, eqb-true, le-ltb}
-use Rattle.base.proofs.Choice.{both-right}
+use Rattle.base.specs.Choice.{both}
+use Rattle.base.proofs.Choice.{both-left, both-right}
 use Rattle.verdict.specs.declared.Refusal.{Refusal}
 use Rattle.verdict.specs.declared.Verdict.{Verdict}
 use Rattle.verdict.specs.declared.Verdict.the-variants.{Fine, Refused}
@@ -16,14 +18,39 @@ use Rattle.boxes.specs.Boxes.{stepAt, stoppedBy, onStep, boxesIn}
 use Rattle.boxes.proofs.Laws.{boxes-at, boxes-box, NoBox}
 use Rattle.bodies.specs.Bodies.{filled}
 use Rattle.bodies.proofs.Filled.{filled-fine}
-use Rattle.tx3g_contents.specs.Kinds.{known}
+use Rattle.tx3g_contents.specs.Kinds.{blnk, known}
 use Rattle.tx3g_contents.specs.Contents.{contentEnd}
 use Rattle.tx3g_modifiers.specs.declared.Held.the-variants.{One}
-use Rattle.tx3g_modifiers.specs.Modifiers.{whole, modifierOf, nextModifier}
+use Rattle.tx3g_modifiers.specs.Modifiers.{handed, whole, modifierOf, nextModifier}
 use Rattle.tx3g_modifiers.specs.Terms.{ended}
 
--- a known box is whole if its content fills it
-pub whole-filled : (s : List ℕ) (p k b n : ℕ) (v : Verdict) → known k ≡ true → v ≡ filled p (contentEnd s k b) n → v ≡ Fine → whole s k b n ≡ true
+-- a kind that is handed out is known, and none is but `blnk`
+pub handed-known : (k : ℕ) → handed k ≡ true → (known k ≡ true) × (k ≢ blnk)
+unfolding handed
+handed-known k h = (both-left (known k) (not (eqb k blnk)) h, λ e. go (eqb k blnk) (both-right (known k) (not (eqb k blnk)) h) (eq-eqb k blnk e))
+  where
+    go : (b : Bool) → not b ≡ true → b ≡ true → ⊥
+    go true p q = let z : _≡_ {A = ℕ} 0 1 = cc in omega arith
+    go false p q = let z : _≡_ {A = ℕ} 0 1 = cc in omega arith
+
+pub handed-blnk : (k : ℕ) → k ≡ blnk → false ≡ handed k
+unfolding handed
+handed-blnk k e = rw (eq-eqb k blnk e) (go (known k))
+  where
+    go : (b : Bool) → false ≡ both b false
+    go true = refl
+    go false = refl
+
+pub handed-other : (k : ℕ) → k ≢ blnk → known k ≡ handed k
+unfolding handed
+handed-other k e = rw (ne-eqb k blnk e) (go (known k))
+  where
+    go : (b : Bool) → b ≡ both b true
+    go true = refl
+    go false = refl
+
+-- a box that is handed out is whole if its content fills it
+pub whole-filled : (s : List ℕ) (p k b n : ℕ) (v : Verdict) → handed k ≡ true → v ≡ filled p (contentEnd s k b) n → v ≡ Fine → whole s k b n ≡ true
 unfolding whole
 whole-filled s p k b n v h e q = rw (h, eq-eqb (contentEnd s k b) n (filled-fine p (contentEnd s k b) n (sym e ∙ q)))
 
@@ -39,17 +66,21 @@ filled-refused p e n r h = ne-eqb e n (λ q. go q h)
         clash : Fine ≡ Refused r → _≡_ {A = ℕ} 0 1
         clash x = cc
 
-pub whole-not : (s : List ℕ) (p k b n : ℕ) (v : Verdict) (r : Refusal) → known k ≡ true → v ≡ filled p (contentEnd s k b) n → v ≡ Refused r → whole s k b n ≡ false
+pub whole-not : (s : List ℕ) (p k b n : ℕ) (v : Verdict) (r : Refusal) → handed k ≡ true → v ≡ filled p (contentEnd s k b) n → v ≡ Refused r → whole s k b n ≡ false
 unfolding whole
 whole-not s p k b n v r h e q = rw (h, filled-refused p (contentEnd s k b) n r (sym e ∙ q))
 
-pub whole-other : (s : List ℕ) (k b n : ℕ) → known k ≡ false → whole s k b n ≡ false
+pub whole-other : (s : List ℕ) (k b n : ℕ) → handed k ≡ false → whole s k b n ≡ false
 unfolding whole
 whole-other s k b n h = rw h
 
+pub whole-kind : (s : List ℕ) (k b n : ℕ) → whole s k b n ≡ true → handed k ≡ true
+unfolding whole
+whole-kind s k b n h = both-left (handed k) (eqb (contentEnd s k b) n) h
+
 pub whole-end : (s : List ℕ) (k b n : ℕ) → whole s k b n ≡ true → contentEnd s k b ≡ n
 unfolding whole
-whole-end s k b n h = eqb-true (contentEnd s k b) n (both-right (known k) (eqb (contentEnd s k b) n) h)
+whole-end s k b n h = eqb-true (contentEnd s k b) n (both-right (handed k) (eqb (contentEnd s k b) n) h)
 
 -- the loop: no further box, a box that is handed out, one that is passed over
 pub next-stop : (s : List ℕ) (at end : ℕ) (t : Step) → stepAt s at end ≡ t → NoBox t → nextModifier s (boxesIn s at end) ≡ ended (stoppedBy t)

@@ -1,14 +1,18 @@
--- The modifiers handed out one by one, and the modifier boxes of a sample without fault. Proved in proofs/Exactly.antt.
-use Prim.Native.Nat.{ℕ}
+-- The modifiers handed out one by one, and the modifier boxes of a sample. Proved in proofs/Exactly.antt.
+use Prim.Native.Nat.{ℕ, _+_}
 use mathlib.Core.Path.{_≡_}
+use mathlib.Core.Logic.{_≢_}
 use mathlib.Core.List.{List, [], _∷_}
 use lib.ListN.{length}
+use Rattle.fields.specs.BigEndian.{be}
 use Rattle.boxes.specs.Boxes.{boxesIn}
+use Rattle.tx3g_contents.specs.Kinds.{blnk}
 use Rattle.tx3g_sample.specs.declared.Reading.the-variants.{Good}
 use Rattle.tx3g_sample.specs.Sample.{textEnd, readSample}
+use Rattle.tx3g_modifiers.specs.declared.Modifier.{Modifier}
 use Rattle.tx3g_modifiers.specs.declared.Held.{Held}
 use Rattle.tx3g_modifiers.specs.declared.Held.the-variants.{One, Refused, End}
-use Rattle.tx3g_modifiers.specs.Modifiers.{nextModifier, modifiersIn, knownIn}
+use Rattle.tx3g_modifiers.specs.Modifiers.{modifierOf, nextModifier, modifiersIn, handedIn}
 
 -- what an answer of `next_modifier` at a place means: the first modifier from there on, and then those from the place after it on; or none
 abbrev pub Means : List ℕ → ℕ → Held → Type 0
@@ -19,6 +23,14 @@ Means s from End = modifiersIn s (boxesIn s from (length s)) ≡ []
 abbrev pub NextMeans : Type 0
 NextMeans = (s : List ℕ) (from : ℕ) (h : Held) → h ≡ nextModifier s (boxesIn s from (length s)) → Means s from h
 
--- the modifiers of a sample without fault, from where its text ends, are exactly its modifier boxes, from left to right
+-- the modifiers of a sample without fault, from where its text ends, are exactly its modifier boxes but `blnk`, from left to right
 abbrev pub Exactly : Type 0
-Exactly = (e s : List ℕ) (n : ℕ) → readSample e s ≡ Good n → modifiersIn s (boxesIn s (textEnd s) (length s)) ≡ knownIn s (boxesIn s (textEnd s) (length s))
+Exactly = (e s : List ℕ) (n : ℕ) → readSample e s ≡ Good n → modifiersIn s (boxesIn s (textEnd s) (length s)) ≡ handedIn s (boxesIn s (textEnd s) (length s))
+
+-- what the box at p says, whose type is not `blnk`
+abbrev pub SaidAt : List ℕ → Modifier → ℕ → Type 0
+SaidAt s m p = (be 4 s (p + 4) ≢ blnk) × (m ≡ modifierOf s (be 4 s (p + 4)) (p + 8))
+
+-- whatever the bytes and the place, no `blnk` is handed out
+abbrev pub NeverBlinks : Type 0
+NeverBlinks = (s : List ℕ) (from : ℕ) (m : Modifier) (n : ℕ) → One m n ≡ nextModifier s (boxesIn s from (length s)) → (p : ℕ) × SaidAt s m p

@@ -1,4 +1,4 @@
-// The modifiers of a `tx3g` sample, one by one from left to right.
+// The modifiers of a `tx3g` sample, one by one from left to right. `blnk` is retired, and not handed out.
 use boxes::Step;
 use boxes::step_at;
 use boxes::stopped_by;
@@ -22,7 +22,7 @@ ghost use Prim.Native.Nat.{_+_, _≤_};
 ghost use lib.ListN.{length};
 ghost use Rattle.boxes.specs.Boxes.{boxesIn, stoppedBy};
 ghost use Rattle.tx3g_contents.specs.Contents.{linkEnd, contentEnd};
-ghost use Rattle.tx3g_modifiers.specs.Modifiers.{whole, linkOf, plainOf, modifierOf, nextModifier};
+ghost use Rattle.tx3g_modifiers.specs.Modifiers.{handed, whole, linkOf, plainOf, modifierOf, nextModifier};
 ghost use Rattle.tx3g_modifiers.specs.Terms.{ended};
 
 // Where bytes stand in a sample: from `from` to before `end`.
@@ -39,10 +39,6 @@ pub enum Modifier {
         from: usize,
     },
     Highlight {
-        start: u32,
-        end: u32,
-    },
-    Blink {
         start: u32,
         end: u32,
     },
@@ -83,12 +79,22 @@ pub enum Held {
     End,
 }
 
-// Whether this is a modifier box that its content fills.
+// The kinds that are handed out.
+fn is_handed(kind: u32) -> bool
+    ensures { λ r. ⌜ r ≡ handed kind ⌝ }
+{
+    if kind == BLNK {
+        return false;
+    }
+    is_known(kind)
+}
+
+// Whether this is a box that is handed out, and that its content fills.
 fn is_whole(s: &[u8], place: usize, kind: u32, body: usize, next: usize) -> bool
     requires { ⌜ (body ≤ next) × (next ≤ length (now s)) ⌝ }
     ensures { λ r. ⌜ r ≡ whole (now (s .entry)) kind body next ⌝ }
 {
-    if is_known(kind) {
+    if is_handed(kind) {
         let v = judge_content(s, place, kind, body, next);
         let Verdict::Fine = v else {
             return false;
@@ -128,12 +134,6 @@ fn read_plain(s: &[u8], kind: u32, body: usize) -> Modifier
 {
     if kind == HLIT {
         return Modifier::Highlight {
-            start: get16(s, body),
-            end: get16(s, body + 2),
-        };
-    }
-    if kind == BLNK {
-        return Modifier::Blink {
             start: get16(s, body),
             end: get16(s, body + 2),
         };

@@ -1,3 +1,4 @@
 pub mod Laws
 pub mod Fonts
 pub mod Texts
+pub mod Blinking

@@ -1,4 +1,4 @@
-// What a `tx3g` sample entry and a sample say: the entry's fields and fonts; the sample's text, and where its styles stand.
+// What a `tx3g` sample entry and a sample say: the entry's fields and fonts; the sample's text, where its styles stand, and whether it has a `blnk`.
 use bodies::Body;
 use bodies::find_body;
 use fields::get8;
@@ -6,6 +6,7 @@ use fields::get16;
 use fields::get32;
 use signed::get_signed8;
 use signed::get_signed16;
+use tx3g_contents::BLNK;
 use tx3g_contents::STYL;
 use tx3g_entry::find_fonts;
 use tx3g_entry::judge_entry;
@@ -25,7 +26,7 @@ ghost use Rattle.characters.specs.Characters.{mark};
 ghost use Rattle.tx3g_sample.specs.Sample.{textEnd, readSample};
 ghost use Rattle.tx3g_style.specs.Style.{stylesOf};
 ghost use Rattle.tx3g_read.specs.Entry.{colourAt, fieldsOf, readEntry, fontIn};
-ghost use Rattle.tx3g_read.specs.Sample.{textOf, stylesIn, contentOf};
+ghost use Rattle.tx3g_read.specs.Sample.{textOf, stylesIn, retiredBlinking, contentOf};
 
 pub struct Colour {
     pub red: u32,
@@ -81,6 +82,7 @@ pub enum Content {
         characters: usize,
         text: Text,
         styles: Styles,
+        retired_blinking: bool,
     },
     BadEntry(Refusal),
     BadSample(Refusal),
@@ -203,6 +205,18 @@ fn find_styles(e: &[u8], s: &[u8], characters: usize) -> Styles
     }
 }
 
+// Whether a sample has a `blnk`, which is retired.
+fn has_blinking(s: &[u8]) -> bool
+    requires { ⌜ 2 ≤ length (now s) ⌝ }
+    ensures { λ r. ⌜ r ≡ retiredBlinking (now (s .entry)) ⌝ }
+{
+    match find_body(s, text_end(s), BLNK) {
+        Body::At(_) => true,
+        Body::Refused(_) => false,
+        Body::Nowhere => false,
+    }
+}
+
 // What a sample holds: the entry is judged first, then the sample.
 pub fn read_content(e: &[u8], s: &[u8]) -> Content
     ensures { λ r. ⌜ r ≡ contentOf (now (e .entry)) (now (s .entry)) ⌝ }
@@ -214,6 +228,7 @@ pub fn read_content(e: &[u8], s: &[u8]) -> Content
             characters,
             text: find_text(s),
             styles: find_styles(e, s, characters),
+            retired_blinking: has_blinking(s),
         },
     }
 }

@@ -39,6 +39,7 @@ fn main() {
     files_out::bench();
     for count in SIZES {
         tx3g::bench(&tx3g::samples(count), &format!("{count} styles"));
+        tx3g::bench_boxes(count);
     }
     head(" class table ns | from_utf8 ns |");
     texts::bench(&inputs::letters(), "4,095 letters");

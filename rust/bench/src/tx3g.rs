@@ -79,6 +79,49 @@ fn bench_runs(entry: &[u8], samples: &[Vec<u8>], input: &str) {
     );
 }
 
+/// Samples of so many boxes: reading them, and the walk over their modifiers.
+pub fn bench_boxes(count: usize) {
+    let entry = &entry(1, FONTS);
+    let samples = vec![boxed(count); (4096 / count).max(4)];
+    let input = format!("{count} boxes");
+    compare(
+        ["read tx3g sample", &input, "sample"],
+        &vec![1; samples.len()],
+        [
+            &mut each(&samples, |s| {
+                let read = tx3g::Sample::read(entry, s).expect("a good sample");
+                usize::from(read.retired_blinking())
+            }),
+            &mut each(&samples, |s| {
+                let read = plain::tx3g::read_sample(entry, s).expect("a good sample");
+                usize::from(read.retired_blinking)
+            }),
+        ],
+    );
+    let read = samples.iter().map(|s| tx3g::Sample::read(entry, s));
+    let walks: Vec<_> = read
+        .map(|s| s.expect("a good sample").modifiers())
+        .collect();
+    compare(
+        ["modifiers", &input, "modifier"],
+        &vec![count - 1; samples.len()],
+        [
+            &mut each(&walks, |walk| walk.clone().count()),
+            &mut each(&samples, |s| plain::tx3g::modifiers(s).count()),
+        ],
+    );
+}
+
+/// A sample with a text of four characters; its boxes are highlights, and at last a `blnk`.
+fn boxed(count: usize) -> Vec<u8> {
+    let mut sample = b"\0\x04saws".to_vec();
+    for _ in 1..count {
+        sample.extend(box_of(b"hlit", &[0, 1, 0, 3]));
+    }
+    sample.extend(box_of(b"blnk", &[0, 0, 0, 4]));
+    sample
+}
+
 /// An entry of so many fonts from an ID on.
 pub fn entry(first: u16, count: u16) -> Vec<u8> {
     let mut fonts = count.to_be_bytes().to_vec();

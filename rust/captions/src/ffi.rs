@@ -157,6 +157,7 @@ pub struct CaptionsTx3gSample {
     pub modifiers: usize,
     pub styles: usize,
     pub styles_from: usize,
+    pub retired_blinking: bool,
 }
 
 #[repr(C)]

@@ -324,7 +324,7 @@ fn a_tx3g_sample_has_json_of_runs_and_modifiers() {
          {\"kind\":\"href\",\"start\":0,\"end\":5,\"url\":\"a\\u001bb\",\
          \"alternative\":\"\u{fffd}\"},\
          {\"kind\":\"tbox\",\"top\":1,\"left\":2,\"bottom\":3,\"right\":4},\
-         {\"kind\":\"twrp\",\"wrap\":true}]}\n"
+         {\"kind\":\"twrp\",\"wrap\":true}],\"retired_blinking\":false}\n"
     );
 }
 
@@ -352,15 +352,27 @@ fn a_tx3g_sample_may_be_utf_16_or_empty() {
 }
 
 #[test]
-fn blnk_is_shown() {
+fn retired_blinking_is_told_without_its_range() {
     let folder = Folder::new();
     folder.put("a.entry", tx3g_entry());
-    folder.put("s", tx3g_sample(&[(b"blnk", vec![0, 0, 0, 5])]));
+    let highlight: (&[u8; 4], _) = (b"hlit", vec![0, 1, 0, 2]);
+    let blinks = [(b"blnk", vec![0, 0, 0, 5]), highlight.clone()];
+    folder.put("s", tx3g_sample(&blinks));
     assert!(folder
         .shows("tx3g a s")
-        .ends_with("\nblnk: blinking 0 to 5\n"));
+        .ends_with("\"\nhlit: highlighted 1 to 2\nretired blinking present\n"));
+    let ends = "\"modifiers\":[{\"kind\":\"hlit\",\"start\":1,\"end\":2}],\"retired_blinking\":";
     let json = folder.shows("tx3g a s --json");
-    assert!(json.ends_with("[{\"kind\":\"blnk\",\"start\":0,\"end\":5}]}\n"));
+    assert!(json.ends_with(&format!("{ends}true}}\n")));
+    let judged = "no fault\nretired blinking present\n";
+    assert_eq!(folder.run("judge tx3g a s").done(), judged);
+    folder.put("s", tx3g_sample(&[highlight]));
+    assert!(folder
+        .shows("tx3g a s")
+        .ends_with("\nhlit: highlighted 1 to 2\n"));
+    let json = folder.shows("tx3g a s --json");
+    assert!(json.ends_with(&format!("{ends}false}}\n")));
+    assert_eq!(folder.run("judge tx3g a s").done(), "no fault\n");
 }
 
 #[test]

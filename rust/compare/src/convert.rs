@@ -142,6 +142,7 @@ pub fn tx3g_sample(read: captions::ffi::CaptionsTx3gSample) -> Tx3gSample {
         modifiers: read.modifiers,
         styles: read.styles,
         styles_from: read.styles_from,
+        retired_blinking: read.retired_blinking,
     }
 }
 
@@ -191,7 +192,6 @@ pub fn modifier(m: &captions::ffi::CaptionsModifier) -> Modifier {
             styles: records(m.first, 12),
         },
         b"hlit" => Modifier::Hlit { start, end },
-        b"blnk" => Modifier::Blnk { start, end },
         b"hclr" => Modifier::Hclr {
             rgba: [m.first, m.second, m.third, m.fourth].map(|part| part as u8),
         },
@@ -225,7 +225,7 @@ pub fn body(m: tx3g::Modifier) -> Vec<u8> {
             let count = (styles.len() as u16).to_be_bytes();
             [count.to_vec(), styles.flat_map(style).collect()].concat()
         }
-        Found::Highlight { start, end } | Found::Blink { start, end } => two(start, end),
+        Found::Highlight { start, end } => two(start, end),
         Found::Colour(parts) => colour(parts).to_vec(),
         Found::Karaoke {
             start_time,

@@ -327,6 +327,7 @@ impl Library for Proved {
             assert_eq!(convert::text(&read), (found.utf16, found.text));
             assert_eq!(read.text().chars().count(), found.characters);
             assert_eq!(read.characters(), found.characters);
+            assert_eq!(read.retired_blinking(), found.retired_blinking);
             Ok(found)
         }))
     }

@@ -37,6 +37,8 @@ pub struct Tx3gSample {
     /// How many styles there are, and where the first stands; 0 and 0 without `styl`.
     pub styles: usize,
     pub styles_from: usize,
+    /// Whether there is a `blnk`.
+    pub retired_blinking: bool,
 }
 
 /// What [`Library::next_run`] is asked beside the sample.

@@ -32,6 +32,7 @@ fn tx3g_sample(sample: tx3g::Sample) -> Tx3gSample {
         modifiers: sample.modifiers,
         styles,
         styles_from,
+        retired_blinking: sample.retired_blinking,
     }
 }
 

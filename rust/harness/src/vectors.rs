@@ -15,7 +15,7 @@ use captions_model::vtt::Read as VttRead;
 use captions_model::wvtt::Cue;
 use captions_model::{Fault, Refusal, Who};
 
-use crate::library::Library;
+use crate::library::{Library, Tx3gSample};
 use crate::rows::{bytes, hex, number, who, Form, Refused, Row};
 
 use files::run_files;
@@ -139,12 +139,6 @@ const ANY_CTIM_NOTES: Form = Form {
     ignored: 1,
     ..NOTES
 };
-/// Rows with a flag for retired blinking first, which changes only a column that is not compared.
-const BLINKING: Form = Form {
-    ignored: 1,
-    ..OFFSETS
-};
-
 const RUNNERS: [(&str, Form, Runner); 25] = [
     ("text.tsv", PLACES, run_text),
     ("sample.tsv", PLACES, run_sample),
@@ -170,7 +164,7 @@ const RUNNERS: [(&str, Form, Runner); 25] = [
     ("02/read_vtt.tsv", NOTES, run_read_vtt),
     ("02/write_vtt.tsv", NOTES, run_write_vtt),
     ("02/tx3g_entry.tsv", OFFSETS, run_tx3g_entry),
-    ("02/tx3g_sample.tsv", BLINKING, run_tx3g_sample),
+    ("02/tx3g_sample.tsv", OFFSETS, run_tx3g_blinking),
 ];
 
 /// Runs all rows, foreign tracks and foreign files below `dir`.
@@ -460,6 +454,17 @@ fn tx3g_characters(
 ) -> Option<Result<usize, Fault>> {
     let read = library.read_tx3g_sample(entry, sample);
     read.map(|answer| answer.map(|sample| sample.characters))
+}
+
+/// Behind a flag: 1 where `blnk` is retired. A row of the time before says nothing of it.
+fn run_tx3g_blinking(library: &dyn Library, row: &Row) -> Verdict {
+    let retired = row.inputs[0] == "1";
+    let read = library.read_tx3g_sample(&row.bytes(1), &row.bytes(2));
+    let told = |sample: Tx3gSample| (sample.characters, retired && sample.retired_blinking);
+    let got = read.map(|answer| answer.map(told));
+    let (expected, more) = row.tx3g_judged();
+    let given = (number(more[0]) as usize, more[1] == "1");
+    compare_judged(got, expected.map(|()| given))
 }
 
 fn run_style(library: &dyn Library, row: &Row) -> Verdict {

@@ -1,8 +1,8 @@
 //! The random inputs reach every number, and wrong libraries are found.
 
 use captions_harness::{
-    differential, Counts, Entry, Fault, Font, Library, Model, Offered, Packed, Refusal, Run, RunAt,
-    RunInput, TextBoxAt, Tx3gSample, Unpacked, VttRead, Who,
+    differential, Counts, Entry, Fault, Font, Library, Model, Modifier, Offered, Packed, Refusal,
+    Run, RunAt, RunInput, TextBoxAt, Tx3gSample, Unpacked, VttRead, Who,
 };
 use captions_model::{list, text};
 
@@ -297,6 +297,45 @@ impl Library for CountsBytes {
     }
 }
 
+/// Tells blinking also by a `blnk` inside another box.
+struct BlinksInside;
+
+impl Library for BlinksInside {
+    fn read_tx3g_sample(&self, entry: &[u8], sample: &[u8]) -> Offered<Result<Tx3gSample, Fault>> {
+        let answer = Model.read_tx3g_sample(entry, sample)?;
+        Some(answer.map(|read| Tx3gSample {
+            retired_blinking: sample[read.modifiers..].windows(4).any(|b| b == b"blnk"),
+            ..read
+        }))
+    }
+}
+
+/// Never tells blinking.
+struct NeverBlinks;
+
+impl Library for NeverBlinks {
+    fn read_tx3g_sample(&self, entry: &[u8], sample: &[u8]) -> Offered<Result<Tx3gSample, Fault>> {
+        let answer = Model.read_tx3g_sample(entry, sample)?;
+        Some(answer.map(|read| Tx3gSample {
+            retired_blinking: false,
+            ..read
+        }))
+    }
+}
+
+/// Hands out a range to blink with.
+struct StillBlinks;
+
+impl Library for StillBlinks {
+    fn modifiers(&self, entry: &[u8], sample: &[u8]) -> Offered<Result<Vec<Modifier>, Fault>> {
+        let read = Model.read_tx3g_sample(entry, sample)?;
+        let blinks = read.is_ok_and(|read| read.retired_blinking);
+        let range = blinks.then_some(Modifier::Blnk { start: 0, end: 1 });
+        let answer = Model.modifiers(entry, sample)?;
+        Some(answer.map(|found| found.into_iter().chain(range).collect()))
+    }
+}
+
 /// Gives every fault of a sample the place 0.
 struct NoPlaces;
 
@@ -453,6 +492,9 @@ fn wrong_libraries_are_found() {
     assert_found(&CutsAtEmptyStyles, "next_run");
     assert_found(&EndsWithTheStyles, "runs");
     assert_found(&CountsBytes, "read_tx3g_sample");
+    assert_found(&BlinksInside, "read_tx3g_sample");
+    assert_found(&NeverBlinks, "read_tx3g_sample");
+    assert_found(&StillBlinks, "modifiers");
     assert_found(&NoPlaces, "judge_sample");
     assert_found(&NoOffsets, "judge_list");
     assert_found(&LastBadText, "pack");

@@ -198,6 +198,8 @@ pub struct Sample {
     /// The style records, if there is a `styl`.
     pub styles: Option<Span>,
     pub text_box: Option<Span>,
+    /// Whether there is a `blnk`.
+    pub retired_blinking: bool,
 }
 
 impl Sample {
@@ -234,6 +236,7 @@ fn read_content(fonts: &Fonts, sample: &[u8]) -> Result<Sample, Refusal> {
         match modifier {
             Modifier::Styl { styles } => read.styles = Some(styles),
             Modifier::Tbox { sides } => read.text_box = Some(sides),
+            Modifier::Blnk { .. } => read.retired_blinking = true,
             _ => {}
         }
     }
@@ -259,6 +262,7 @@ fn read_text(sample: &[u8]) -> Result<Sample, Refusal> {
         modifiers,
         styles: None,
         text_box: None,
+        retired_blinking: false,
     })
 }
 

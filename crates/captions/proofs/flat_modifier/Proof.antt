@@ -19,23 +19,18 @@ returns-5 : tie.Need-returns-5
 returns-5 c = rw (c .before .before .m5 .given .1) (c .modifier-of5 .ensures)
 
 returns-6 : tie.Need-returns-6
-returns-6 c = rw (c .before .before .m6 .given .1) (c .modifier-of6 .ensures)
+returns-6 c = rw (c .before .before .m6 .given .1) (c .flat-link .ensures)
 
 returns-7 : tie.Need-returns-7
-returns-7 c = rw (c .before .before .m7 .given .1) (c .flat-link .ensures)
+returns-7 c = rw (c .before .before .m7 .given .1) (c .modifier-of6 .ensures)
 
 returns-8 : tie.Need-returns-8
 returns-8 c = rw (c .before .before .m8 .given .1) (c .modifier-of7 .ensures)
-
-returns-9 : tie.Need-returns-9
-returns-9 c = rw (c .before .before .m9 .given .1) (c .modifier-of8 .ensures)
 
 pub flat-modifier-spec : {M : Type 1} → statement M
 flat-modifier-spec =
     tie.close
     (tie.spec
-    (λ c. search needs)
-    (λ c κs. search needs)
     (λ c. search needs)
     (λ c κs. search needs)
     (λ c. search needs)
@@ -59,5 +54,4 @@ flat-modifier-spec =
     returns-5
     returns-6
     returns-7
-    returns-8
-    returns-9)
+    returns-8)

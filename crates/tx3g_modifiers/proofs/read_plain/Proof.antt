@@ -11,15 +11,11 @@ returns c = rw (eq-eqb _ _ (c .before .before .if1 .taken), c .before .get16 .en
 
 returns-2 : tie.Need-returns-2
 unfolding plainOf
-returns-2 c = rw (ne-eqb _ _ (c .before .before .before .if1 .left), eq-eqb _ _ (c .before .before .if2 .taken), c .before .get163 .ensures .0, c .get164 .ensures .0)
+returns-2 c = rw (ne-eqb _ _ (c .before .before .before .before .before .if1 .left), eq-eqb _ _ (c .before .before .before .before .if2 .taken), c .before .before .before .get8 .ensures .0, c .before .before .get82 .ensures .0, c .before .get83 .ensures .0, c .get84 .ensures .0)
 
 returns-3 : tie.Need-returns-3
 unfolding plainOf
-returns-3 c = rw (ne-eqb _ _ (c .before .before .before .before .before .before .if1 .left), ne-eqb _ _ (c .before .before .before .before .before .if2 .left), eq-eqb _ _ (c .before .before .before .before .if3 .taken), c .before .before .before .get8 .ensures .0, c .before .before .get82 .ensures .0, c .before .get83 .ensures .0, c .get84 .ensures .0)
-
-returns-4 : tie.Need-returns-4
-unfolding plainOf
-returns-4 c = rw (ne-eqb _ _ (c .before .before .before .if1 .left), ne-eqb _ _ (c .before .before .if2 .left), ne-eqb _ _ (c .before .if3 .left), c .get32 .ensures .0)
+returns-3 c = rw (ne-eqb _ _ (c .before .before .if1 .left), ne-eqb _ _ (c .before .if2 .left), c .get32 .ensures .0)
 
 pub read-plain-spec : {M : Type 1} → statement M
 read-plain-spec =
@@ -32,14 +28,10 @@ read-plain-spec =
     (λ c κs. search needs)
     (λ c. search needs)
     (λ c κs. search needs)
+    (λ c. search needs)
+    (λ c κs. search needs)
+    (λ c. search needs)
+    (λ c κs. search needs)
     returns-2
     (λ c κs. search needs)
-    (λ c. search needs)
-    (λ c κs. search needs)
-    (λ c. search needs)
-    (λ c κs. search needs)
-    (λ c. search needs)
-    (λ c κs. search needs)
-    returns-3
-    (λ c κs. search needs)
-    returns-4)
+    returns-3)

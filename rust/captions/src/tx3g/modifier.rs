@@ -7,7 +7,10 @@ use crate::ffi::{self, CaptionsModifier};
 use crate::refusal::judged;
 use crate::Refusal;
 
-/// A modifier of a sample. Ranges count characters, from `start` to before `end`.
+/// A modifier of a sample. Ranges count characters, from `start` to before `end`. There is none
+/// for `blnk`, which is retired: [`Sample::retired_blinking`] tells that it is there.
+///
+/// [`Sample::retired_blinking`]: super::Sample::retired_blinking
 #[non_exhaustive]
 #[derive(Clone, Debug, PartialEq, Eq)]
 pub enum Modifier<'a> {
@@ -44,13 +47,6 @@ pub enum Modifier<'a> {
     },
     /// `tbox`: the text box in force.
     TextBox(TextBox),
-    /// `blnk`: characters that blink.
-    Blink {
-        /// The first.
-        start: u16,
-        /// The one after the last.
-        end: u16,
-    },
     /// `twrp`: whether lines are wrapped.
     Wrap(bool),
 }
@@ -62,7 +58,6 @@ impl<'a> Modifier<'a> {
         match &found.kind.to_be_bytes() {
             b"styl" => Modifier::Styles(records(sample, found.from, found.first)),
             b"hlit" => Modifier::Highlight { start, end },
-            b"blnk" => Modifier::Blink { start, end },
             b"hclr" => Modifier::Colour(Colour::of([
                 found.first,
                 found.second,
@@ -92,9 +87,9 @@ fn records<R: Record>(sample: &[u8], from: usize, count: u32) -> Records<'_, R> 
 }
 
 /// The first modifier of any bytes from a place on, and from where to look for the next; none
-/// at the end. Refused: 1 or 2 for a bad header; a modifier box that its content does not fill,
-/// which a good sample never holds, is passed over. [`Sample::modifiers`] judges the sample
-/// first.
+/// at the end. Refused: 1 or 2 for a bad header. A `blnk` is passed over, and so is a modifier
+/// box that its content does not fill, which a good sample never holds. [`Sample::modifiers`]
+/// judges the sample first.
 ///
 /// [`Sample::modifiers`]: super::Sample::modifiers
 #[inline]

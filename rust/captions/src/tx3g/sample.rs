@@ -22,9 +22,11 @@ const ENTRY_STYLE: usize = 34;
 /// # entry.extend([0; 38]);
 /// # entry[39] = 1;
 /// # entry.extend(b"\0\0\0\x0Dftab\0\x01\0\x01\0");
-/// // `entry` has font 1. Of three characters the second is in a style of its own, and blinks.
+/// // `entry` has font 1. Of three characters the second is in a style of its own, is
+/// // highlighted, and blinks.
 /// let mut bytes = b"\0\x04a\xC3\xA9c".to_vec();
 /// bytes.extend(b"\0\0\0\x16styl\0\x01\0\x01\0\x02\0\x01\x01\x0C\xFF\0\0\xFF");
+/// bytes.extend(b"\0\0\0\x0Chlit\0\x01\0\x02");
 /// bytes.extend(b"\0\0\0\x0Cblnk\0\x01\0\x02");
 /// let sample = Sample::read(&entry, &bytes)?;
 /// assert_eq!(sample.text(), Text::Utf8("aéc"));
@@ -32,7 +34,8 @@ const ENTRY_STYLE: usize = 34;
 /// let bold: Vec<_> = sample.runs().map(|run| (run.range, run.style.bold())).collect();
 /// assert_eq!(bold, [(0..1, false), (1..2, true), (2..3, false)]);
 /// let last = sample.modifiers().last();
-/// assert_eq!(last, Some(Modifier::Blink { start: 1, end: 2 }));
+/// assert_eq!(last, Some(Modifier::Highlight { start: 1, end: 2 }));
+/// assert!(sample.retired_blinking());
 /// # Ok::<(), captions::Fault>(())
 /// ```
 #[derive(Clone, Copy, Debug, PartialEq, Eq)]
@@ -44,6 +47,7 @@ pub struct Sample<'a> {
     modifiers: usize,
     styles: usize,
     styles_from: usize,
+    retired_blinking: bool,
 }
 
 impl<'a> Sample<'a> {
@@ -75,6 +79,7 @@ impl<'a> Sample<'a> {
             modifiers: read.modifiers,
             styles: read.styles,
             styles_from: read.styles_from,
+            retired_blinking: read.retired_blinking,
         })
     }
 
@@ -104,7 +109,13 @@ impl<'a> Sample<'a> {
         }
     }
 
-    /// The modifiers from left to right; other boxes are passed over.
+    /// Whether the sample has a `blnk`. Blinking harms some viewers and is retired: the box is
+    /// judged, but which characters it names is not handed out.
+    pub fn retired_blinking(&self) -> bool {
+        self.retired_blinking
+    }
+
+    /// The modifiers from left to right; other boxes, and `blnk`, are passed over.
     pub fn modifiers(&self) -> Modifiers<'a> {
         Modifiers::new(self.bytes, self.modifiers)
     }

@@ -33,7 +33,8 @@ Says 'no fault', or what is wrong and where; the exit status is 1 then.
   entry      a wvtt or tx3g sample entry, by its type
   list       a WebVTT file FILE.vtt, or NAME for NAME.rec and NAME.pool, on a timeline
   track      NAME for NAME.table and NAME.samples
-  tx3g       one sample of 3GPP text beside its entry
+  tx3g       one sample of 3GPP text beside its entry; a second line tells
+             'retired blinking present' where it has a blnk
   vtt        a WebVTT file, whatever its name is
   --scale N  ticks a second, 1 to 1000000
   --t MS     how long the timeline is: milliseconds or hh:mm:ss.mmm
@@ -42,6 +43,8 @@ An entry is a file, or NAME for NAME.entry. - is standard input where one file i
 
 Example: captions judge entry saws.entry
 ";
+
+const NO_FAULT: &str = "no fault\n";
 
 fn run(raw: &[OsString]) -> Result<(), Failure> {
     let mut args = Args::parse(raw, &[], &["--scale", "--t"])?;
@@ -55,7 +58,7 @@ fn run(raw: &[OsString]) -> Result<(), Failure> {
         Some("entry") => judge_entry(&args, &first)?,
         Some("list") => judge_lists(&args, &first)?,
         Some("track") => judge_track(&args, &first)?,
-        Some("tx3g") => judge_tx3g(&mut args, &first)?,
+        Some("tx3g") => return judge_tx3g(&mut args, &first),
         Some("vtt") => judge_vtt(&args, &first)?,
         _ => {
             return Err(Failure::Usage(format!(
@@ -64,7 +67,7 @@ fn run(raw: &[OsString]) -> Result<(), Failure> {
             )))
         }
     }
-    print(b"no fault\n")
+    print(NO_FAULT.as_bytes())
 }
 
 fn judge_sample(args: &Args, name: &OsString) -> Result<(), Failure> {
@@ -103,8 +106,9 @@ fn judge_tx3g(args: &mut Args, name: &OsString) -> Result<(), Failure> {
     let sample = args.operand("the sample")?;
     args.end()?;
     let (entry, sample) = (read_entry(name)?, read_file(&sample)?);
-    let read = tx3g::Sample::read(&entry, &sample).map(drop);
-    read.map_err(|fault| words::tx3g_sample(&entry, &sample, &fault))
+    let read = tx3g::Sample::read(&entry, &sample)
+        .map_err(|fault| words::tx3g_sample(&entry, &sample, &fault))?;
+    print(format!("{NO_FAULT}{}", words::retired_blinking(&read)).as_bytes())
 }
 
 fn judge_vtt(args: &Args, name: &OsString) -> Result<(), Failure> {

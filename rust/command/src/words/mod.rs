@@ -19,6 +19,8 @@ use crate::files::{List, TrackFiles, VTT_SCALE};
 
 use text::{bad_text, Rule};
 
+pub use tx3g::retired_blinking;
+
 /// Number, kind of place, place, and what is wrong there.
 fn refused(refusal: &Refusal, kind: &str, what: impl Display) -> Failure {
     let (number, place) = (refusal.reason.number(), refusal.place);

@@ -2,7 +2,7 @@
 
 use std::iter;
 
-use captions::tx3g::{count_characters, font_at, FontAt};
+use captions::tx3g::{count_characters, font_at, FontAt, Sample};
 use captions::{Reason, Refusal};
 
 use super::boxes::{bad_head, four, two, with_byte, Container};
@@ -25,6 +25,14 @@ const TEXT: usize = 2;
 const STYLES: (usize, usize) = (2, 12);
 const TURNS: (usize, usize) = (6, 8);
 const FONTS: (usize, usize) = (2, 3);
+
+/// The line for a sample that has a `blnk`; nothing for another.
+pub fn retired_blinking(sample: &Sample) -> &'static str {
+    match sample.retired_blinking() {
+        true => "retired blinking present\n",
+        false => "",
+    }
+}
 
 /// What is wrong with an entry.
 pub fn in_entry(entry: &[u8], refusal: &Refusal) -> String {

@@ -38,7 +38,7 @@
 #define TX3G_ENTRY                                                                                                                         \
     "\0\0\0\x43tx3g\0\0\0\0\0\0\1\2\3\4\5\6\xff\1\7\x08\x09\x0a\xff\xf5\xff\xf4\0\x0d\0\x0e\0\0\0\0\x0f\x10\x11\x12\x13\x14\x15\x16"    \
     "\0\0\0\x15" "ftab\0\2\x0f\x10\3abc\x0f\x11\2de"
-/* Five characters in six bytes, and a modifier of every kind. */
+/* Five characters in six bytes, and a modifier box of every kind. */
 #define TX3G_STYLES "\0\0\0\x22styl\0\2\0\1\0\2\x0f\x11\x21\x22\x23\x24\x25\x26\0\3\0\4\x0f\x10\x31\x32\x33\x34\x35\x36"
 #define TX3G_SAMPLE                                                                                                                        \
     "\0\6h\xc3\xa9llo" TX3G_STYLES "\0\0\0\x0chlit\0\1\0\3\0\0\0\x0c" "blnk\0\2\0\4\0\0\0\x0chclr\1\2\3\4"                               \
@@ -115,8 +115,8 @@ static void font(CaptionsFont f) { printf("font: %d %u %zu %zu\n", f.found, f.id
 
 static void tx3g_sample(CaptionsTx3gSample s) {
     refusal("tx3g sample", s.refusal);
-    printf(": %u %zu %d %zu %zu %zu %zu %zu\n", s.who, s.characters, s.utf16, s.text_from, s.text_end, s.modifiers, s.styles,
-           s.styles_from);
+    printf(": %u %zu %d %zu %zu %zu %zu %zu %d\n", s.who, s.characters, s.utf16, s.text_from, s.text_end, s.modifiers, s.styles,
+           s.styles_from, s.retired_blinking);
 }
 
 static void style(CaptionsStyle s) {
@@ -314,6 +314,9 @@ static void tx3g_entries(void) {
 static void tx3g_samples(void) {
     tx3g_sample(captions_tx3g_read_sample(TEXT(TX3G_ENTRY), TEXT(TX3G_SAMPLE)));
     tx3g_sample(captions_tx3g_read_sample(TEXT(TX3G_ENTRY), TEXT("\0\6\xfe\xff\xd8\x3d\xde\x00")));
+    /* a blnk inside another box, and one in front of a header that is cut short */
+    tx3g_sample(captions_tx3g_read_sample(TEXT(TX3G_ENTRY), TEXT("\0\0\0\0\0\x14" "free\0\0\0\x0c" "blnk\0\0\0\0")));
+    tx3g_sample(captions_tx3g_read_sample(TEXT(TX3G_ENTRY), TEXT("\0\0\0\0\0\x0c" "blnk\0\0\0\0\0")));
     tx3g_sample(captions_tx3g_read_sample(TEXT(TX3G_ENTRY), TEXT("\0\3ab\xff")));
     tx3g_sample(captions_tx3g_read_sample(TEXT("\0"), TEXT("\0\3ab\xff")));
     tx3g_sample(captions_tx3g_read_sample(TEXT(TX3G_ENTRY), NONE));

@@ -48,7 +48,7 @@ fn in_rust() -> Vec<String> {
         }
         CaptionsFont { found id name_from name_end }
         CaptionsCount { refusal characters }
-        CaptionsTx3gSample { refusal who characters utf16 text_from text_end modifiers styles styles_from }
+        CaptionsTx3gSample { refusal who characters utf16 text_from text_end modifiers styles styles_from retired_blinking }
         CaptionsStyle { refusal who start end font face size red green blue alpha }
         CaptionsRun { found styled from end font face size red green blue alpha styles styles_from }
         CaptionsTextBox { refusal who in_sample from top left bottom right }

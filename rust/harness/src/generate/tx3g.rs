@@ -132,6 +132,11 @@ pub fn sample_for(random: &mut Random, fonts: &[u16]) -> Vec<u8> {
         if random.percent(8) {
             sample.extend(other_box(random));
         }
+        if random.percent(4) {
+            let other = random.below(9);
+            let inside = modifier(random, other, count, fonts);
+            sample.extend(box_of(b"free", &inside));
+        }
     }
     for _ in 0..random.pick(&[0, 0, 0, 0, 1, 2]) {
         damage_boxes(random, &mut sample);

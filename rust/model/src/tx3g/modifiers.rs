@@ -37,6 +37,7 @@ pub enum Modifier {
     Tbox {
         sides: Span,
     },
+    /// Retired: judged, and not handed out.
     Blnk {
         start: u16,
         end: u16,
@@ -46,23 +47,29 @@ pub enum Modifier {
     },
 }
 
-/// The modifiers of a good sample from left to right; other boxes are passed over.
+/// The modifiers of a good sample from left to right; other boxes and `blnk` are passed over.
 pub fn modifiers(sample: &[u8]) -> impl Iterator<Item = Modifier> + '_ {
     boxes_from(sample, boxes_begin(sample))
         .map_while(Result::ok)
-        .filter_map(|found| read_modifier(sample, found).ok().flatten())
+        .filter_map(|found| handed_out(sample, found))
 }
 
 /// The first modifier of any bytes from a place on, and where its box ends. Only headers are
-/// judged; a box that its content does not fill is passed over.
+/// judged; a `blnk` and a box that its content does not fill are passed over.
 pub fn next_modifier(sample: &[u8], from: usize) -> Result<Option<(Modifier, usize)>, Refusal> {
     for found in boxes_from(sample, from) {
         let found = found?;
-        if let Ok(Some(modifier)) = read_modifier(sample, found) {
+        if let Some(modifier) = handed_out(sample, found) {
             return Ok(Some((modifier, found.body.end)));
         }
     }
     Ok(None)
+}
+
+/// A modifier that is handed out.
+fn handed_out(sample: &[u8], found: BoxAt) -> Option<Modifier> {
+    let modifier = read_modifier(sample, found).ok()??;
+    (!matches!(modifier, Modifier::Blnk { .. })).then_some(modifier)
 }
 
 /// Reads a modifier, or gives the number its length is refused by.

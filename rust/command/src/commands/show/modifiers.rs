@@ -19,7 +19,6 @@ impl<'a> Described<'a> {
     pub fn of(modifier: Modifier<'a>) -> Option<Self> {
         Some(match modifier {
             Modifier::Highlight { start, end } => ranged("hlit", "highlighted", start, end),
-            Modifier::Blink { start, end } => ranged("blnk", "blinking", start, end),
             Modifier::Colour(colour) => single("hclr", "highlight colour ", "colour", hex(colour)),
             Modifier::Karaoke {
                 start_time,

@@ -104,7 +104,7 @@ impl<'a> SampleBeside<'a> {
         })
     }
 
-    /// The lines: text, text box, runs, modifiers.
+    /// The lines: text, text box, runs, modifiers, and that retired blinking is present.
     pub fn lines(&self) -> String {
         let runs = self.runs().map(|(from, end, style, text)| {
             let style = style_words(&self.entry, &style);
@@ -112,7 +112,7 @@ impl<'a> SampleBeside<'a> {
         });
         let modifiers = self.sample.modifiers().filter_map(Described::of);
         format!(
-            "text {}, {}, {}\ntext box {}, of the {}\n{}{}",
+            "text {}, {}, {}\ntext box {}, of the {}\n{}{}{}",
             quoted(self.sample.text().to_string().as_bytes()),
             count(self.sample.characters(), "character"),
             self.encoding(),
@@ -122,6 +122,7 @@ impl<'a> SampleBeside<'a> {
             modifiers
                 .map(|modifier| modifier.line())
                 .collect::<String>(),
+            words::retired_blinking(&self.sample),
         )
     }
 
@@ -145,6 +146,7 @@ impl<'a> SampleBeside<'a> {
             ("text_box_of", self.box_of.to_string().into()),
             ("runs", Json::array(runs)),
             ("modifiers", Json::array(modifiers.map(Described::object))),
+            ("retired_blinking", self.sample.retired_blinking().into()),
         ])
     }
 
