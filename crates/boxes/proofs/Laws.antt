@@ -17,7 +17,7 @@ use Rattle.fields.specs.BigEndian.{be}
 use Rattle.boxes.proofs.Step.{enum as Step-enum}
 use Rattle.boxes.specs.declared.Step.{Step}
 use Rattle.boxes.specs.declared.Step.the-variants.{Box, Refused as Stopped, End}
-use Rattle.boxes.specs.Boxes.{stepAt, stoppedBy, Boxes, clean, broken, box, onStep, boxesF, boxesIn, passed}
+use Rattle.boxes.specs.Boxes.{stepAt, stoppedBy, Boxes, clean, broken, box, onStep, boxesF, boxesIn, placeOf, passed}
 
 boxed : (b1 b2 b3 b4 : Bool) (r q u : Refusal) (k b n k′ b′ n′ : ℕ)
     → pick b1 End (pick b2 (Stopped r) (pick b3 (Stopped q) (pick b4 (Stopped u) (Box k b n)))) ≡ Box k′ b′ n′
@@ -71,6 +71,23 @@ pub step-whole : (s : List ℕ) (at end : ℕ) → at < end → 8 ≤ end - at �
     → stepAt s at end ≡ Box (be 4 s (at + 4)) (at + 8) (at + be 4 s at)
 unfolding stepAt
 step-whole s at end h k l m = simp (lt-leb end at h, le-ltb (end - at) 8 k, le-ltb (be 4 s at) 8 l, le-ltb (end - at) (be 4 s at) m)
+
+-- boxes do not end before their container does
+pub step-goes : (s : List ℕ) (at end : ℕ) → at < end → stepAt s at end ≡ End → ⊥
+unfolding stepAt
+step-goes s at end h e = go (ltb (end - at) 8) (ltb (be 4 s at) 8) (ltb (end - at) (be 4 s at)) _ _ _ _ _ _ (rw (lt-leb end at h) at e)
+  where
+    go : (x y z : Bool) (r q u : Refusal) (k b n : ℕ) → pick x (Stopped r) (pick y (Stopped q) (pick z (Stopped u) (Box k b n))) ≡ End → ⊥
+    go true y z r q u k b n e = let i : _≡_ {A = ℕ} 0 1 = cc in omega arith
+    go false true z r q u k b n e = let i : _≡_ {A = ℕ} 0 1 = cc in omega arith
+    go false false true r q u k b n e = let i : _≡_ {A = ℕ} 0 1 = cc in omega arith
+    go false false false r q u k b n e = let i : _≡_ {A = ℕ} 0 1 = cc in omega arith
+
+-- and a box does not stand before the first
+pub place-up : (s : List ℕ) (i at : ℕ) → at ≤ placeOf s at i
+unfolding placeOf
+place-up s zero at = omega arith
+place-up s (suc i) at = let h = place-up s i (at + be 4 s at) in omega (arith, h)
 
 on-same : (t : Step) (at : ℕ) (f g : ℕ → Boxes) → ((k b n : ℕ) → t ≡ Box k b n → f n ≡ g n) → onStep t at f ≡ onStep t at g
 on-same (Box k b n) at f g h = rw (h k b n refl)

@@ -49,6 +49,11 @@ unfoldable pub boxesIn : List ℕ → ℕ → ℕ → Boxes
 unfolding boxesF
 boxesIn s at end = boxesF (suc end) s at end
 
+-- where box i stands, from 0: boxes lie end to end from `at` on, each as long as its size says
+unfoldable pub placeOf : List ℕ → ℕ → ℕ → ℕ
+placeOf s at zero = at
+placeOf s at (suc i) = placeOf s (at + be 4 s at) i
+
 -- the boxes are whole
 unfoldable pub passed : Boxes → Verdict
 passed clean = Fine

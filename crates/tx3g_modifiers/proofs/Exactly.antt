@@ -13,7 +13,7 @@ use Rattle.verdict.specs.declared.Verdict.the-variants.{Fine, Refused}
 use Rattle.verdict.proofs.Judgement.{both-fine}
 use Rattle.boxes.specs.declared.Step.{Step}
 use Rattle.boxes.specs.declared.Step.the-variants.{Box, Refused as Stopped, End as Ended}
-use Rattle.boxes.specs.Boxes.{stepAt, Boxes, clean, broken, box, onStep, boxesIn, judged}
+use Rattle.boxes.specs.Boxes.{stepAt, Boxes, clean, broken, box, onStep, boxesIn, placeOf, judged}
 use Rattle.boxes.proofs.Laws.{step-box, step-reads, boxes-at, boxes-box}
 use Rattle.tx3g_contents.specs.Contents.{contentEnd}
 use Rattle.tx3g_entry.specs.Entry.{nothingMore, fontsOf}
@@ -23,7 +23,7 @@ use Rattle.tx3g_modifiers.specs.declared.Modifier.{Modifier}
 use Rattle.tx3g_modifiers.specs.declared.Held.the-variants.{One, Refused as Broken, End}
 use Rattle.tx3g_modifiers.specs.Modifiers.{handed, whole, modifierOf, nextModifier, modifiersIn, handedIn}
 use Rattle.tx3g_modifiers.specs.Terms.{ended}
-use Rattle.tx3g_modifiers.specs.Exactly.{NextMeans, Exactly, SaidAt, NeverBlinks}
+use Rattle.tx3g_modifiers.specs.Exactly.{NextMeans, Exactly, NeverBlinks}
 use Rattle.tx3g_modifiers.proofs.Laws.{handed-known, whole-kind, whole-other}
 
 -- no modifier is handed out: there is none
@@ -42,19 +42,19 @@ none-left s (box p k b n rest) v h = go (whole s k b n) v h (λ q. none-left s r
 one-same : (m m′ : Modifier) (n n′ : ℕ) → One m n ≡ One m′ n′ → (m ≡ m′) × (n ≡ n′)
 one-same m m′ n n′ e = (cc, cc)
 
--- a modifier handed out from `at` on: the box that says it, and that it is the first, and the others stand from the place after it on
+-- a modifier handed out from `at` on: the box that says it, and that it is the first, with the others from the place after it on
 record Found (s : List ℕ) (end at : ℕ) (m : Modifier) (n : ℕ) : Type 0 where
-  place : ℕ
+  number : ℕ
   kind : ℕ
   body : ℕ
-  stands : stepAt s place end ≡ Box kind body n
+  stands : stepAt s (placeOf s at number) end ≡ Box kind body n
   fills : whole s kind body n ≡ true
   says : m ≡ modifierOf s kind body
   first : modifiersIn s (boxesIn s at end) ≡ m ∷ modifiersIn s (boxesIn s n end)
 
 module _ (s : List ℕ) (end : ℕ) (m : Modifier) (n : ℕ) where
   found-in : (f at : ℕ) → end - at < f → nextModifier s (boxesIn s at end) ≡ One m n → Found s end at m n
-  unfolding nextModifier modifiersIn
+  unfolding nextModifier modifiersIn placeOf
   found-in zero at l h = absurd (not-suc-le-zero l)
   found-in (suc f) at l h = go (stepAt s at end) refl (rw (boxes-at s at end) at h) (λ i x y. found-in f i x y)
     where
@@ -66,7 +66,7 @@ module _ (s : List ℕ) (end : ℕ) (m : Modifier) (n : ℕ) where
           here true x u =
               let w = one-same (modifierOf s k b) m i n u in
               record {
-                place = at;
+                number = 0;
                 kind = k;
                 body = b;
                 stands = e ∙ ap (Box k b) (w .1);
@@ -77,7 +77,7 @@ module _ (s : List ℕ) (end : ℕ) (m : Modifier) (n : ℕ) where
           here false x u =
               let w = step-box s at end k b i e in
               let r = rest i (omega arith) u in
-              record { place = r .place; kind = r .kind; body = r .body; stands = r .stands; fills = r .fills; says = r .says; first = rw (boxes-box s at end k b i e, modifiersIn, x) (r .first) }
+              record { number = suc (r .number); kind = r .kind; body = r .body; stands = rw (← step-reads s at end k b i e .1) (r .stands); fills = r .fills; says = r .says; first = rw (boxes-box s at end k b i e, modifiersIn, x) (r .first) }
       go (Stopped r) e q rest = let z : _≡_ {A = ℕ} 0 1 = cc in absurd (omega arith)
       go Ended e q rest = let z : _≡_ {A = ℕ} 0 1 = cc in absurd (omega arith)
 
@@ -92,9 +92,16 @@ next-means s from End e = none-left s (boxesIn s from (length s)) Fine (sym e)
 pub never-blinks : NeverBlinks
 never-blinks s from m n e =
     let w = found s (length s) m n from (sym e) in
-    let h = step-reads s (w .place) (length s) (w .kind) (w .body) n (w .stands) in
-    let l = step-box s (w .place) (length s) (w .kind) (w .body) n (w .stands) in
-    (w .place, (rw (← h .0) (handed-known (w .kind) (whole-kind s (w .kind) (w .body) n (w .fills)) .1), w .says ∙ rw (h .0, l .header)))
+    let p = placeOf s from (w .number) in
+    let h = step-reads s p (length s) (w .kind) (w .body) n (w .stands) in
+    let l = step-box s p (length s) (w .kind) (w .body) n (w .stands) in (
+      w .number,
+      record {
+        other = rw (← h .0) (handed-known (w .kind) (whole-kind s (w .kind) (w .body) n (w .fills)) .1);
+        says = w .says ∙ rw (h .0, l .header);
+        ends = h .1;
+      },
+    )
 
 whole-handed : (s : List ℕ) (k b n : ℕ) → handed k ≡ true → contentEnd s k b ≡ n → whole s k b n ≡ true
 unfolding whole

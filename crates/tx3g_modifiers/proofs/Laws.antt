@@ -24,7 +24,7 @@ use Rattle.tx3g_modifiers.specs.declared.Held.the-variants.{One}
 use Rattle.tx3g_modifiers.specs.Modifiers.{handed, whole, modifierOf, nextModifier}
 use Rattle.tx3g_modifiers.specs.Terms.{ended}
 
--- a kind that is handed out is known, and none is but `blnk`
+-- the kinds that are handed out: known, and not `blnk`
 pub handed-known : (k : ℕ) → handed k ≡ true → (known k ≡ true) × (k ≢ blnk)
 unfolding handed
 handed-known k h = (both-left (known k) (not (eqb k blnk)) h, λ e. go (eqb k blnk) (both-right (known k) (not (eqb k blnk)) h) (eq-eqb k blnk e))

@@ -5,7 +5,7 @@ use mathlib.Core.Logic.{_≢_}
 use mathlib.Core.List.{List, [], _∷_}
 use lib.ListN.{length}
 use Rattle.fields.specs.BigEndian.{be}
-use Rattle.boxes.specs.Boxes.{boxesIn}
+use Rattle.boxes.specs.Boxes.{boxesIn, placeOf}
 use Rattle.tx3g_contents.specs.Kinds.{blnk}
 use Rattle.tx3g_sample.specs.declared.Reading.the-variants.{Good}
 use Rattle.tx3g_sample.specs.Sample.{textEnd, readSample}
@@ -27,10 +27,12 @@ NextMeans = (s : List ℕ) (from : ℕ) (h : Held) → h ≡ nextModifier s (box
 abbrev pub Exactly : Type 0
 Exactly = (e s : List ℕ) (n : ℕ) → readSample e s ≡ Good n → modifiersIn s (boxesIn s (textEnd s) (length s)) ≡ handedIn s (boxesIn s (textEnd s) (length s))
 
--- what the box at p says, whose type is not `blnk`
-abbrev pub SaidAt : List ℕ → Modifier → ℕ → Type 0
-SaidAt s m p = (be 4 s (p + 4) ≢ blnk) × (m ≡ modifierOf s (be 4 s (p + 4)) (p + 8))
+-- the box at p is no `blnk`, says m, and ends at n
+pub record SaidAt (s : List ℕ) (m : Modifier) (n p : ℕ) : Type 0 where
+  pub other : be 4 s (p + 4) ≢ blnk
+  pub says : m ≡ modifierOf s (be 4 s (p + 4)) (p + 8)
+  pub ends : n ≡ p + be 4 s p
 
--- whatever the bytes and the place, no `blnk` is handed out
+-- whatever the bytes and the place, what is handed out is said by one of the boxes from there on, and by no `blnk`
 abbrev pub NeverBlinks : Type 0
-NeverBlinks = (s : List ℕ) (from : ℕ) (m : Modifier) (n : ℕ) → One m n ≡ nextModifier s (boxesIn s from (length s)) → (p : ℕ) × SaidAt s m p
+NeverBlinks = (s : List ℕ) (from : ℕ) (m : Modifier) (n : ℕ) → One m n ≡ nextModifier s (boxesIn s from (length s)) → (i : ℕ) × SaidAt s m n (placeOf s from i)

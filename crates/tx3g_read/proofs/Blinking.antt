@@ -1,24 +1,23 @@
 -- Retired blinking: what the search for a `blnk` tells, and that an answer carries it exactly if the sample has no fault and one of its boxes is a `blnk`.
-use Prim.Native.Nat.{ℕ, zero, suc, _+_, _-_, _≤_, _<_}
+use Prim.Native.Nat.{ℕ, zero, suc, _+_, _-_, _<_}
 use mathlib.Core.Path.{_≡_, refl, sym, _∙_}
 use mathlib.Core.Logic.{_↔_}
 use mathlib.Core.Bool.{Bool, true, false}
 use mathlib.Core.List.{List, [], _∷_}
 use native.Mathlib.Omega.{arith}
 use native.Mathlib.Nat.{not-suc-le-zero}
-use lib.Dec.{ltb, eqb}
+use lib.Dec.{eqb}
 use lib.ListN.{length}
-use borrow.Author.Tests.{lt-leb, eq-eqb, eqb-true}
+use borrow.Author.Tests.{eq-eqb, eqb-true}
 use Rattle.base.specs.Choice.{pick, one-of}
-use Rattle.verdict.specs.declared.Refusal.{Refusal}
 use Rattle.verdict.specs.declared.Verdict.{Verdict}
 use Rattle.verdict.specs.declared.Verdict.the-variants.{Fine}
 use Rattle.verdict.proofs.Judgement.{both-fine}
 use Rattle.fields.specs.BigEndian.{be}
 use Rattle.boxes.specs.declared.Step.{Step}
 use Rattle.boxes.specs.declared.Step.the-variants.{Box, Refused as Stopped, End}
-use Rattle.boxes.specs.Boxes.{stepAt, Boxes, clean, broken, box, onStep, boxesIn, judged}
-use Rattle.boxes.proofs.Laws.{step-box, step-reads, boxes-at}
+use Rattle.boxes.specs.Boxes.{stepAt, Boxes, clean, broken, box, onStep, boxesIn, placeOf, judged}
+use Rattle.boxes.proofs.Laws.{step-box, step-reads, step-goes, boxes-at, place-up}
 use Rattle.bodies.specs.declared.Body.{Body}
 use Rattle.bodies.specs.declared.Body.the-variants.{At, Refused as NotRead, Nowhere}
 use Rattle.bodies.specs.Bodies.{bodyOf}
@@ -29,7 +28,7 @@ use Rattle.tx3g_sample.specs.declared.Reading.the-variants.{Good, BadEntry as E
 use Rattle.tx3g_sample.specs.Sample.{textEnd, inSample, modifiersOf, fontsIn, judgeModifiers, readSample}
 use Rattle.tx3g_sample.proofs.Laws.{read-good}
 use Rattle.tx3g_read.specs.Sample.{hasBox, retiredBlinking, contentBy, contentOf}
-use Rattle.tx3g_read.specs.Statements.{placeOf, BlnkAt, Carries, BlinkingIs}
+use Rattle.tx3g_read.specs.Statements.{BlnkAt, Carries, BlinkingIs}
 
 -- what a search for the body of a box tells of the box
 abbrev pub found : Body → Bool
@@ -46,22 +45,6 @@ found-is k (box p j b n rest) = go (eqb j k) (found-is k rest)
     go : (t : Bool) → found (bodyOf k rest) ≡ hasBox k rest → found (pick t (At b) (bodyOf k rest)) ≡ one-of t (hasBox k rest)
     go true h = refl
     go false h = h
-
--- boxes do not end before the container
-not-end : (s : List ℕ) (at end : ℕ) → at < end → stepAt s at end ≡ End → ⊥
-unfolding stepAt
-not-end s at end h e = go (ltb (end - at) 8) (ltb (be 4 s at) 8) (ltb (end - at) (be 4 s at)) _ _ _ _ _ _ (rw (lt-leb end at h) at e)
-  where
-    go : (x y z : Bool) (r q u : Refusal) (k b n : ℕ) → pick x (Stopped r) (pick y (Stopped q) (pick z (Stopped u) (Box k b n))) ≡ End → ⊥
-    go true y z r q u k b n e = let i : _≡_ {A = ℕ} 0 1 = cc in omega arith
-    go false true z r q u k b n e = let i : _≡_ {A = ℕ} 0 1 = cc in omega arith
-    go false false true r q u k b n e = let i : _≡_ {A = ℕ} 0 1 = cc in omega arith
-    go false false false r q u k b n e = let i : _≡_ {A = ℕ} 0 1 = cc in omega arith
-
-place-up : (s : List ℕ) (i at : ℕ) → at ≤ placeOf s at i
-unfolding placeOf
-place-up s zero at = omega arith
-place-up s (suc i) at = let h = place-up s i (at + be 4 s at) in omega (arith, h)
 
 -- box i from a place on is of kind k
 abbrev KindAt : List ℕ → ℕ → ℕ → ℕ → ℕ → Type 0
@@ -98,7 +81,7 @@ module _ (s : List ℕ) (k end : ℕ) where
         go : (t : Step) → stepAt s at end ≡ t → judged inside last before (onStep t at (λ n. boxesIn s n end)) ≡ Fine → hasBox k (onStep t at (λ n. boxesIn s n end)) ≡ true
         go (Box j b n) e q = here j b n e (both-fine (inside before at j b n) _ q .1)
         go (Stopped r) e q = let z : _≡_ {A = ℕ} 0 1 = cc in absurd (omega arith)
-        go End e q = absurd (not-end s at end h e)
+        go End e q = absurd (step-goes s at end h e)
 
     or-true : (t u : Bool) → u ≡ true → one-of t u ≡ true
     or-true true u x = refl

@@ -1,5 +1,5 @@
 -- What is handed out is what the entry and the sample hold. Proved in proofs/Fonts.antt and proofs/Texts.antt.
-use Prim.Native.Nat.{ℕ, zero, suc, _+_, _≤_, _<_}
+use Prim.Native.Nat.{ℕ, suc, _+_, _≤_, _<_}
 use mathlib.Core.Path.{_≡_}
 use mathlib.Core.Logic.{_↔_}
 use mathlib.Core.Bool.{Bool, true, false}
@@ -9,7 +9,7 @@ use Rattle.verdict.specs.declared.Verdict.the-variants.{Fine}
 use Rattle.fields.specs.BigEndian.{be}
 use Rattle.utf8.specs.Utf8.{utf8}
 use Rattle.characters.specs.Characters.{firsts, utf16, firstUnits}
-use Rattle.boxes.specs.Boxes.{part}
+use Rattle.boxes.specs.Boxes.{placeOf, part}
 use Rattle.tx3g_fonts.specs.Fonts.{fontAt, fontId}
 use Rattle.bodies.specs.declared.Body.the-variants.{At}
 use Rattle.tx3g_entry.specs.Entry.{fontsOf, judgeEntry}
@@ -46,12 +46,7 @@ TextIs =
     (e s : List ℕ) (n : ℕ) → readSample e s ≡ Good n
     → (textOf s .from ≤ textOf s .end) × (textOf s .end ≤ length s) × Encodes (textOf s .utf16) (part s (textOf s .from) (textOf s .end)) n
 
--- where box i stands, boxes lying one behind the other from `at` on, each as long as its size says
-unfoldable pub placeOf : List ℕ → ℕ → ℕ → ℕ
-placeOf s at zero = at
-placeOf s at (suc i) = placeOf s (at + be 4 s at) i
-
--- box i of a sample is a `blnk`
+-- box i behind the text is a `blnk`
 abbrev pub BlnkAt : List ℕ → ℕ → Type 0
 BlnkAt s i = (placeOf s (textEnd s) i < length s) × (be 4 s (placeOf s (textEnd s) i + 4) ≡ blnk)
 
@@ -61,6 +56,6 @@ Carries (Held n t y b) = b ≡ true
 Carries (BadEntry r) = ⊥
 Carries (BadSample r) = ⊥
 
--- exactly if the sample was read without fault, and one of its boxes is a `blnk`
+-- exactly if the sample has no fault, and one of its boxes is a `blnk`
 abbrev pub BlinkingIs : Type 0
 BlinkingIs = (e s : List ℕ) → Carries (contentOf e s) ↔ (((n : ℕ) × (readSample e s ≡ Good n)) × ((i : ℕ) × BlnkAt s i))
