@@ -1196,8 +1196,8 @@ pub extern "C" fn captions_tx3g_text_box<'a>(entry: &'a [u8], sample: &'a [u8]) 
     }
 }
 
-// The first modifier from `from` on, where a box begins, or the refusal of a header before it. By its kind: `styl` count and the styles from `from` on; `hlit` start and end;
-// `hclr` red, green, blue, alpha; `krok` start time, count and the entries; `dlay` time; `href` start, end, URL and alternative text; `tbox` the box; `twrp` the flag. A `blnk` is passed over.
+// The first modifier from `from` on, where a box begins, or the refusal of a header before it; a `blnk` is passed over. By its kind: `styl` count and the styles from `from` on;
+// `hlit` start and end; `hclr` red, green, blue, alpha; `krok` start time, count and the entries; `dlay` time; `href` start, end, URL and alternative text; `tbox` the box; `twrp` the flag.
 #[no_mangle]
 pub extern "C" fn captions_tx3g_next_modifier(sample: &[u8], from: usize) -> CaptionsModifier
     ensures { λ r. ⌜ r ≡ flatModified (nextModifier (now (sample .entry)) (boxesIn (now (sample .entry)) from (length (now (sample .entry))))) ⌝ }

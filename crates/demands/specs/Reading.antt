@@ -27,9 +27,10 @@ pub record ReadingMeans : Type 0 where
   -- a sample that is written is read without fault, and gives its cues back
   pub written : SampleFine
   pub back : SampleHeld
-  -- the walk over a `tx3g` sample hands out its modifiers from left to right; without fault they are exactly its modifier boxes but `blnk`; no bytes make it hand out a `blnk`
+  -- the walk over a `tx3g` sample hands out its modifiers from left to right; without fault they are exactly its modifier boxes but `blnk`
   pub modifiers : NextModifierMeans
   pub exactly : Exactly
+  -- and over any bytes it hands out no `blnk`
   pub never-blinks : NeverBlinks
   -- at most one style holds a character
   pub style : OnlyOne

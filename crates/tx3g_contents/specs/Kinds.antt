@@ -20,7 +20,7 @@ krok = 0x6B726F6B
 abbrev pub dlay : ℕ
 dlay = 0x646C6179
 
--- `href`, a link; `tbox`, a text box; `blnk`, blinking; `twrp`, wrapping
+-- `href`, a link; `tbox`, a text box; `blnk`, blinking, which is retired and still judged; `twrp`, wrapping
 abbrev pub href : ℕ
 href = 0x68726566
 

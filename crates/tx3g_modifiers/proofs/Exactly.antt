@@ -77,7 +77,15 @@ module _ (s : List ℕ) (end : ℕ) (m : Modifier) (n : ℕ) where
           here false x u =
               let w = step-box s at end k b i e in
               let r = rest i (omega arith) u in
-              record { number = suc (r .number); kind = r .kind; body = r .body; stands = rw (← step-reads s at end k b i e .1) (r .stands); fills = r .fills; says = r .says; first = rw (boxes-box s at end k b i e, modifiersIn, x) (r .first) }
+              record {
+                number = suc (r .number);
+                kind = r .kind;
+                body = r .body;
+                stands = rw (← step-reads s at end k b i e .1) (r .stands);
+                fills = r .fills;
+                says = r .says;
+                first = rw (boxes-box s at end k b i e, modifiersIn, x) (r .first);
+              }
       go (Stopped r) e q rest = let z : _≡_ {A = ℕ} 0 1 = cc in absurd (omega arith)
       go Ended e q rest = let z : _≡_ {A = ℕ} 0 1 = cc in absurd (omega arith)
 
