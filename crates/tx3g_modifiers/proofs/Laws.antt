@@ -7,7 +7,6 @@ use mathlib.Core.Logic.{_≢_}
 use native.Mathlib.Omega.{arith}
 use lib.Dec.{eqb}
 use borrow.Author.Tests.{eq-eqb, ne-eqb, eqb-true, le-ltb}
-use Rattle.base.specs.Choice.{both}
 use Rattle.base.proofs.Choice.{both-left, both-right}
 use Rattle.verdict.specs.declared.Refusal.{Refusal}
 use Rattle.verdict.specs.declared.Verdict.{Verdict}
@@ -27,7 +26,7 @@ use Rattle.tx3g_modifiers.specs.Terms.{ended}
 -- the kinds that are handed out: known, and not `blnk`
 pub handed-known : (k : ℕ) → handed k ≡ true → (known k ≡ true) × (k ≢ blnk)
 unfolding handed
-handed-known k h = (both-left (known k) (not (eqb k blnk)) h, λ e. go (eqb k blnk) (both-right (known k) (not (eqb k blnk)) h) (eq-eqb k blnk e))
+handed-known k h = (both-right (not (eqb k blnk)) (known k) h, λ e. go (eqb k blnk) (both-left (not (eqb k blnk)) (known k) h) (eq-eqb k blnk e))
   where
     go : (b : Bool) → not b ≡ true → b ≡ true → ⊥
     go true p q = let z : _≡_ {A = ℕ} 0 1 = cc in omega arith
@@ -35,19 +34,11 @@ handed-known k h = (both-left (known k) (not (eqb k blnk)) h, λ e. go (eqb k bl
 
 pub handed-blnk : (k : ℕ) → k ≡ blnk → false ≡ handed k
 unfolding handed
-handed-blnk k e = rw (eq-eqb k blnk e) (go (known k))
-  where
-    go : (b : Bool) → false ≡ both b false
-    go true = refl
-    go false = refl
+handed-blnk k e = rw (eq-eqb k blnk e)
 
 pub handed-other : (k : ℕ) → k ≢ blnk → known k ≡ handed k
 unfolding handed
-handed-other k e = rw (ne-eqb k blnk e) (go (known k))
-  where
-    go : (b : Bool) → b ≡ both b true
-    go true = refl
-    go false = refl
+handed-other k e = rw (ne-eqb k blnk e)
 
 -- a box that is handed out is whole if its content fills it
 pub whole-filled : (s : List ℕ) (p k b n : ℕ) (v : Verdict) → handed k ≡ true → v ≡ filled p (contentEnd s k b) n → v ≡ Fine → whole s k b n ≡ true

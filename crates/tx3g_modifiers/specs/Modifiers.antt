@@ -15,7 +15,7 @@ use Rattle.tx3g_modifiers.specs.declared.Held.the-variants.{One, Refused
 
 -- the kinds that are handed out: `blnk` is retired
 unfoldable pub handed : ℕ → Bool
-handed k = both (known k) (not (eqb k blnk))
+handed k = both (not (eqb k blnk)) (known k)
 
 -- a box that is handed out, and that its content fills, as each one is in a sample without fault
 unfoldable pub whole : List ℕ → ℕ → ℕ → ℕ → Bool

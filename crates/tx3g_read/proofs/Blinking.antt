@@ -10,6 +10,7 @@ use lib.Dec.{eqb}
 use lib.ListN.{length}
 use borrow.Author.Tests.{eq-eqb, eqb-true}
 use Rattle.base.specs.Choice.{pick, one-of}
+use Rattle.base.proofs.Tests.{one-of-comm}
 use Rattle.verdict.specs.declared.Verdict.{Verdict}
 use Rattle.verdict.specs.declared.Verdict.the-variants.{Fine}
 use Rattle.verdict.proofs.Judgement.{both-fine}
@@ -83,10 +84,6 @@ module _ (s : List ℕ) (k end : ℕ) where
         go (Stopped r) e q = let z : _≡_ {A = ℕ} 0 1 = cc in absurd (omega arith)
         go End e q = absurd (step-goes s at end h e)
 
-    or-true : (t u : Bool) → u ≡ true → one-of t u ≡ true
-    or-true true u x = refl
-    or-true false u x = x
-
     -- so a box that has a number is there
     there : (i at : ℕ) (before : List ℕ) → judged inside last before (boxesIn s at end) ≡ Fine → KindAt s k end at i → hasBox k (boxesIn s at end) ≡ true
     unfolding placeOf
@@ -94,7 +91,7 @@ module _ (s : List ℕ) (k end : ℕ) where
     there (suc i) at before f h =
         let w = place-up s i (at + be 4 s at) in
         at-box at before f (omega (arith, w, h .0))
-        (λ j b n e q. or-true (eqb j k) _ (there i n (j ∷ before) q (rw (step-reads s at end j b n e .1) h)))
+        (λ j b n e q. one-of-comm (eqb j k) (hasBox k (boxesIn s n end)) ∙ rw (there i n (j ∷ before) q (rw (step-reads s at end j b n e .1) h)))
 
 -- in a sample without fault
 blinking-at : (e s : List ℕ) (n : ℕ) → judgeModifiers e n s ≡ Fine → (retiredBlinking s ≡ true) ↔ ((i : ℕ) × BlnkAt s i)
