@@ -238,6 +238,23 @@ typedef struct CaptionsChecked {
 CaptionsChecked captions_wvtt_check(uint32_t scale, uint32_t t, const uint8_t *records, size_t records_len, const uint8_t *pool,
                                     size_t pool_len, const uint8_t *table, size_t table_len, const uint8_t *samples, size_t samples_len);
 
+/* ---- Tracks of either kind ---- */
+
+typedef struct CaptionsDropped {
+    CaptionsRefusal refusal;
+    size_t samples; /* how many are left */
+    size_t table_bytes;
+    size_t sample_bytes;
+} CaptionsDropped;
+
+/* Copies a table and its samples without the samples of duration 0, which no time shows and every reading of a track refuses. The others keep
+   their order, their durations and their bytes, and so their times. Of a sample's bytes nothing is read, so that it serves wvtt and tx3g alike.
+   Refused: 1 or 9 of the table, place 0; sample by sample 4, 1, place its index; 2 for bytes left over, place the sample count; last 15, place 0
+   for the table and 1 for the samples. The room is what dropping answers where there is room. */
+CaptionsDropped captions_drop_zero_durations_room(const uint8_t *table, size_t table_len, const uint8_t *samples, size_t samples_len);
+CaptionsDropped captions_drop_zero_durations(const uint8_t *table, size_t table_len, const uint8_t *samples, size_t samples_len,
+                                             uint8_t *table_out, size_t table_out_len, uint8_t *samples_out, size_t samples_out_len);
+
 /* ---- WebVTT files ---- */
 
 typedef struct CaptionsVttRead {
@@ -414,6 +431,40 @@ typedef struct CaptionsModifier {
 /* The first modifier from a place on: `modifiers` of captions_tx3g_read_sample, or the `next` of the one before. A bad header gives 1 or 2. A
    blnk, which is retired, is passed over, and so is a modifier box that its content does not fill, which a good sample never holds. */
 CaptionsModifier captions_tx3g_next_modifier(const uint8_t *sample, size_t sample_len, size_t from);
+
+/* ---- 3GPP text: tracks ---- */
+
+typedef struct CaptionsTx3gConverted {
+    CaptionsRefusal refusal;
+    uint32_t who; /* CAPTIONS_ENTRY: the place is a byte of it; CAPTIONS_TRACK, the scale among it: it is a sample; CAPTIONS_OUTPUT, beside 15 */
+    size_t cues;  /* how many */
+    size_t record_bytes;
+    size_t pool_bytes;
+    uint32_t t;  /* in ms */
+    size_t hlit; /* from here on: how many boxes of a kind were left out, over all samples */
+    size_t retired_blinking; /* blnk */
+    size_t hclr;
+    size_t krok;
+    size_t dlay;
+    size_t href;
+    size_t tbox;
+    size_t twrp;
+} CaptionsTx3gConverted;
+
+/* Converts a tx3g track, its table, its samples and their one entry, into a cue list. Each sample with any text left becomes a cue over its own
+   time, IDs counted from 0. The text is written as UTF-8, with &amp; &lt; &gt; for & < >; CRs and LFs that stand together become one LF, and
+   those in front and at the end go. The characters of each style, and each longest stretch of the default style, stand in <b>, <i> and <u> by
+   the face. What else the modifiers say is left out and counted.
+   Refused: 10 for the scale, place 0; then the entry; then the track, as captions_wvtt_judge_track refuses one, with each sample read as
+   captions_tx3g_read_sample reads it; then cue by cue, place its sample, 9 for the 1,025th and for a payload that is too long, 6 for a zero byte,
+   with its offset in the payload, 10 for its times; 10 for t, place the cue count; last 15, place 0 for the records and 1 for the pool.
+   The room is what converting answers where there is room. Old tracks often end with a sample of duration 0, which is 10:
+   captions_drop_zero_durations takes it out. */
+CaptionsTx3gConverted captions_tx3g_convert_room(uint32_t scale, const uint8_t *entry, size_t entry_len, const uint8_t *table,
+                                                 size_t table_len, const uint8_t *samples, size_t samples_len);
+CaptionsTx3gConverted captions_tx3g_convert(uint32_t scale, const uint8_t *entry, size_t entry_len, const uint8_t *table, size_t table_len,
+                                            const uint8_t *samples, size_t samples_len, uint8_t *records, size_t records_len, uint8_t *pool,
+                                            size_t pool_len);
 
 #ifdef __cplusplus
 }

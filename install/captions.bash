@@ -1,12 +1,13 @@
 # Bash completion for captions.
 
 # Answers with the files of a kind that begin with a word, and with folders. A name stands for its
-# .rec or .table file.
+# .rec, .table or .entry file.
 _captions_files() {
     local word=$2 endings='' name ending
     case $1 in
     list) endings='.rec .vtt' ;;
     track) endings=.table ;;
+    entry) endings=.entry ;;
     vtt) endings=.vtt ;;
     file) mapfile -t COMPREPLY < <(compgen -f -- "$word") ;;
     esac
@@ -43,6 +44,8 @@ _captions() {
     check\ *) options='--scale --t' places=(list track) ;;
     from-vtt\ *) places=(vtt list) ;;
     to-vtt\ *) options='--header' places=(list vtt) ;;
+    from-3gpp\ *) options='--scale --header' places=(entry track list) ;;
+    drop-zero-durations\ *) places=(track track) ;;
     judge\ ) options='--scale --t' words='sample entry list track tx3g vtt' ;;
     judge\ list) options='--scale --t' places=(kind list) ;;
     judge\ track | judge\ vtt) places=(kind "${operands[0]}") ;;
@@ -52,7 +55,7 @@ _captions() {
     show\ *) options='--json --out' places=(kind file file) ;;
     judge\ *) places=(kind file file) ;;
     esac
-    ((COMP_CWORD == 1)) && words='pack unpack check judge show from-vtt to-vtt --version' && options=$words before=''
+    ((COMP_CWORD == 1)) && words='pack unpack check judge show from-vtt to-vtt from-3gpp drop-zero-durations --version' && options=$words before=''
     case $before in
     --header | --out) _captions_files file "$word" ;;
     --track) _captions_files track "$word" ;;

@@ -19,6 +19,8 @@ use Rattle.wvtt_cues.specs.declared.Held.the-variants.{Cue, Refused as NotWhole
 use Rattle.times.specs.Times.{back}
 use Rattle.pack.specs.declared.Packed.{Packed}
 use Rattle.pack.specs.declared.Packed.the-variants.{Done, Refused as NotPacked}
+use Rattle.table_lasting.specs.declared.Dropped.{Dropped}
+use Rattle.table_lasting.specs.declared.Dropped.the-variants.{Done as Kept, Refused as NotDropped}
 use Rattle.unpack.specs.declared.Unpacked.{Unpacked}
 use Rattle.unpack.specs.declared.Unpacked.the-variants.{Done as Listed, Refused as NotListed}
 use Rattle.vtt_read.specs.declared.FileRead.{FileRead}
@@ -51,6 +53,9 @@ use Rattle.tx3g_modifiers.specs.declared.Modifier.{Modifier}
 use Rattle.tx3g_modifiers.specs.declared.Modifier.the-variants.{Styles, Highlight, Colour, Karaoke, Delay, Link, TextBox, Wrap}
 use Rattle.tx3g_modifiers.specs.declared.Held.{Held as Modified}
 use Rattle.tx3g_modifiers.specs.declared.Held.the-variants.{One, Refused as NotRead, End as NoMore}
+use Rattle.tx3g_stock.specs.declared.Counts.{Counts}
+use Rattle.tx3g_convert.specs.declared.Converted.{Converted}
+use Rattle.tx3g_convert.specs.declared.Converted.the-variants.{Done as ConvertDone, BadEntry as ConvertEntry, BadTrack as ConvertTrack, NoRoom as ConvertRoom}
 use Rattle.captions.specs.declared.CaptionsChecked.{CaptionsChecked}
 use Rattle.captions.specs.declared.CaptionsWvttEntry.{CaptionsWvttEntry}
 use Rattle.captions.specs.declared.CaptionsWritten.{CaptionsWritten}
@@ -60,6 +65,7 @@ use Rattle.captions.specs.declared.CaptionsTx3gSample.{CaptionsTx3gSampl
 use Rattle.captions.specs.declared.CaptionsRun.{CaptionsRun}
 use Rattle.captions.specs.declared.CaptionsPacked.{CaptionsPacked}
 use Rattle.captions.specs.declared.CaptionsUnpacked.{CaptionsUnpacked}
+use Rattle.captions.specs.declared.CaptionsDropped.{CaptionsDropped}
 use Rattle.captions.specs.declared.CaptionsVttRead.{CaptionsVttRead}
 use Rattle.captions.specs.declared.CaptionsVttWritten.{CaptionsVttWritten}
 use Rattle.captions.specs.declared.CaptionsStyle.{CaptionsStyle}
@@ -68,6 +74,7 @@ use Rattle.captions.specs.declared.CaptionsModifier.{CaptionsModifier}
 use Rattle.captions.specs.declared.CaptionsCount.{CaptionsCount}
 use Rattle.captions.specs.declared.CaptionsStep.{CaptionsStep}
 use Rattle.captions.specs.declared.CaptionsCue.{CaptionsCue}
+use Rattle.captions.specs.declared.CaptionsTx3gConverted.{CaptionsTx3gConverted}
 
 -- nothing is wrong
 abbrev pub nothing : Refusal
@@ -141,6 +148,11 @@ flatPacked (NotPacked r) = record { refusal = r; samples = 0; «table_bytes» = 
 abbrev pub flatUnpacked : Unpacked → CaptionsUnpacked
 flatUnpacked (Listed n p t) = record { refusal = nothing; «record_bytes» = n; «pool_bytes» = p; t = t }
 flatUnpacked (NotListed r) = record { refusal = r; «record_bytes» = 0; «pool_bytes» = 0; t = 0 }
+
+-- what dropping samples of duration 0 answers
+abbrev pub flatDropped : Dropped → CaptionsDropped
+flatDropped (Kept n t b) = record { refusal = nothing; samples = n; «table_bytes» = t; «sample_bytes» = b }
+flatDropped (NotDropped r) = record { refusal = r; samples = 0; «table_bytes» = 0; «sample_bytes» = 0 }
 
 -- what reading a file answers
 abbrev pub flatFile : FileRead → CaptionsVttRead
@@ -342,3 +354,48 @@ abbrev pub flatModified : Modified → CaptionsModifier
 flatModified (One m n) = flatModifier m n
 flatModified (NotRead r) = noModifier r
 flatModified NoMore = noModifier nothing
+
+-- what converting answers
+abbrev pub noConversion : ℕ → Refusal → CaptionsTx3gConverted
+noConversion who r =
+    record {
+      refusal = r;
+      who = who;
+      cues = 0;
+      «record_bytes» = 0;
+      «pool_bytes» = 0;
+      t = 0;
+      hlit = 0;
+      «retired_blinking» = 0;
+      hclr = 0;
+      krok = 0;
+      dlay = 0;
+      href = 0;
+      tbox = 0;
+      twrp = 0;
+    }
+
+abbrev pub doneConversion : ℕ → ℕ → ℕ → ℕ → Counts → CaptionsTx3gConverted
+doneConversion n r p t c =
+    record {
+      refusal = nothing;
+      who = 0;
+      cues = n;
+      «record_bytes» = r;
+      «pool_bytes» = p;
+      t = t;
+      hlit = c .hlit;
+      «retired_blinking» = c .«retired_blinking»;
+      hclr = c .hclr;
+      krok = c .krok;
+      dlay = c .dlay;
+      href = c .href;
+      tbox = c .tbox;
+      twrp = c .twrp;
+    }
+
+abbrev pub flatConverted : Converted → CaptionsTx3gConverted
+flatConverted (ConvertDone n r p t c) = doneConversion n r p t c
+flatConverted (ConvertEntry r) = noConversion 1 r
+flatConverted (ConvertTrack r) = noConversion 4 r
+flatConverted (ConvertRoom r) = noConversion 6 r

@@ -5,7 +5,9 @@ use conform::Checked;
 use pack::Packed;
 use signed::Edges;
 use signed::read_edges;
+use table_lasting::Dropped;
 use tx3g_box::Spot;
+use tx3g_convert::Converted;
 use tx3g_modifiers::Held as Modified;
 use tx3g_modifiers::Modifier;
 use tx3g_modifiers::Part;
@@ -14,6 +16,7 @@ use tx3g_read::Entry as Tx3gEntry;
 use tx3g_read::Fields;
 use tx3g_read::Font;
 use tx3g_runs::Run;
+use tx3g_stock::Counts;
 use tx3g_style::Styled;
 use unpack::Unpacked;
 use verdict::Refusal;
@@ -44,6 +47,9 @@ ghost use Rattle.cues.specs.Judgement.{judgeList};
 ghost use Rattle.track.specs.Track.{judgeTrack};
 ghost use Rattle.pack.specs.Packing.{packedTrack, tableBytes, samplesBytes, packRoom, packedOf, after};
 ghost use Rattle.unpack.specs.Unpacking.{trackCues, unpackRoom, unpackOf, outOf};
+ghost use Rattle.table.specs.Parts.{tableOf, contentOf as samplesOf};
+ghost use Rattle.table_lasting.specs.Lasting.{lastingOf};
+ghost use Rattle.table_lasting.specs.Dropping.{dropRoom, dropOf, outOf as dropOut};
 ghost use Rattle.vtt_read.specs.Reading.{fileRecords, filePool, readRoom, readOf, outOf as fileOut};
 ghost use Rattle.vtt_write.specs.Writing.{fileBytes, writeRoom, writtenOf as fileWritten, after as fileAfter};
 ghost use Rattle.records_write.specs.Records.{recordsOf, poolOf};
@@ -54,7 +60,8 @@ ghost use Rattle.tx3g_runs.specs.Runs.{nextRun};
 ghost use Rattle.tx3g_style.specs.Style.{styleOf};
 ghost use Rattle.tx3g_box.specs.TextBox.{spotOf};
 ghost use Rattle.tx3g_modifiers.specs.Modifiers.{nextModifier};
-ghost use Rattle.captions.specs.Flat.{flatVerdict, flatText, flatCount, flatStep, noCue, flatHeld, msOf, flatPacked, flatUnpacked, flatFile, flatFileWritten, flatChecked, flatWvttEntry, flatWritten, flatFields, noFields, flatTx3gEntry, flatFont, noContent, flatContent, plainRun, flatRun, boxOf, noBox, flatSpot, noStyle, flatStyled, modifierOf, flatModifier, noModifier, flatModified};
+ghost use Rattle.tx3g_convert.specs.Convert.{stockCues, convertRoom, convertOf, outOf as convertOut};
+ghost use Rattle.captions.specs.Flat.{flatVerdict, flatText, flatCount, flatStep, noCue, flatHeld, msOf, flatPacked, flatUnpacked, flatDropped, flatFile, flatFileWritten, flatChecked, flatWvttEntry, flatWritten, flatFields, noFields, flatTx3gEntry, flatFont, noContent, flatContent, plainRun, flatRun, boxOf, noBox, flatSpot, noStyle, flatStyled, modifierOf, flatModifier, noModifier, flatModified, noConversion, doneConversion, flatConverted};
 
 #[repr(C)]
 pub struct CaptionsCount {
@@ -100,6 +107,14 @@ pub struct CaptionsUnpacked {
     pub record_bytes: usize,
     pub pool_bytes: usize,
     pub t: u32,
+}
+
+#[repr(C)]
+pub struct CaptionsDropped {
+    pub refusal: Refusal,
+    pub samples: usize,
+    pub table_bytes: usize,
+    pub sample_bytes: usize,
 }
 
 #[repr(C)]
@@ -201,6 +216,24 @@ pub struct CaptionsStyle {
     pub green: u32,
     pub blue: u32,
     pub alpha: u32,
+}
+
+#[repr(C)]
+pub struct CaptionsTx3gConverted {
+    pub refusal: Refusal,
+    pub who: u32,
+    pub cues: usize,
+    pub record_bytes: usize,
+    pub pool_bytes: usize,
+    pub t: u32,
+    pub hlit: usize,
+    pub retired_blinking: usize,
+    pub hclr: usize,
+    pub krok: usize,
+    pub dlay: usize,
+    pub href: usize,
+    pub tbox: usize,
+    pub twrp: usize,
 }
 
 #[repr(C)]
@@ -387,6 +420,29 @@ fn flat_unpacked(u: Unpacked) -> CaptionsUnpacked
             record_bytes: 0,
             pool_bytes: 0,
             t: 0,
+        },
+    }
+}
+
+fn flat_dropped(d: Dropped) -> CaptionsDropped
+    ensures { λ r. ⌜ r ≡ flatDropped d ⌝ }
+{
+    match d {
+        Dropped::Done {
+            samples,
+            table: rows,
+            bytes,
+        } => CaptionsDropped {
+            refusal: fault_at(0, 0),
+            samples,
+            table_bytes: rows,
+            sample_bytes: bytes,
+        },
+        Dropped::Refused(why) => CaptionsDropped {
+            refusal: why,
+            samples: 0,
+            table_bytes: 0,
+            sample_bytes: 0,
         },
     }
 }
@@ -867,6 +923,73 @@ fn flat_modified(h: Modified) -> CaptionsModifier
     }
 }
 
+// No conversion: whose fault it is, and why.
+fn no_conversion(who: u32, why: Refusal) -> CaptionsTx3gConverted
+    ensures { λ r. ⌜ r ≡ noConversion who why ⌝ }
+{
+    CaptionsTx3gConverted {
+        refusal: why,
+        who,
+        cues: 0,
+        record_bytes: 0,
+        pool_bytes: 0,
+        t: 0,
+        hlit: 0,
+        retired_blinking: 0,
+        hclr: 0,
+        krok: 0,
+        dlay: 0,
+        href: 0,
+        tbox: 0,
+        twrp: 0,
+    }
+}
+
+// A conversion that is done, with the boxes that were dropped.
+fn done_conversion(
+    cues: usize,
+    record_bytes: usize,
+    pool_bytes: usize,
+    t: u32,
+    dropped: Counts,
+) -> CaptionsTx3gConverted
+    ensures { λ r. ⌜ r ≡ doneConversion cues «record_bytes» «pool_bytes» t dropped ⌝ }
+{
+    CaptionsTx3gConverted {
+        refusal: fault_at(0, 0),
+        who: 0,
+        cues,
+        record_bytes,
+        pool_bytes,
+        t,
+        hlit: dropped.hlit,
+        retired_blinking: dropped.retired_blinking,
+        hclr: dropped.hclr,
+        krok: dropped.krok,
+        dlay: dropped.dlay,
+        href: dropped.href,
+        tbox: dropped.tbox,
+        twrp: dropped.twrp,
+    }
+}
+
+fn flat_converted(c: Converted) -> CaptionsTx3gConverted
+    ensures { λ r. ⌜ r ≡ flatConverted c ⌝ }
+{
+    match c {
+        Converted::Done {
+            cues,
+            records,
+            pool,
+            t,
+            dropped,
+        } => done_conversion(cues, records, pool, t, dropped),
+        Converted::BadEntry(why) => no_conversion(1, why),
+        Converted::BadTrack(why) => no_conversion(4, why),
+        Converted::NoRoom(why) => no_conversion(6, why),
+    }
+}
+
 // The rules of texts; the place is 0.
 #[no_mangle]
 pub extern "C" fn captions_judge_utf8(text: &[u8]) -> Refusal
@@ -1083,6 +1206,30 @@ pub extern "C" fn captions_wvtt_check(
     flat_checked(conform::check_track(scale, t, records, pool, table, samples))
 }
 
+// The lengths that `captions_drop_zero_durations` needs, or its refusal.
+#[no_mangle]
+pub extern "C" fn captions_drop_zero_durations_room(table: &[u8], samples: &[u8]) -> CaptionsDropped
+    ensures { λ r. ⌜ r ≡ flatDropped (dropRoom (now (table .entry)) (now (samples .entry))) ⌝ }
+{
+    flat_dropped(table_lasting::drop_zero_durations_room(table, samples))
+}
+
+// Copies a table and its samples without the samples of duration 0.
+#[no_mangle]
+pub extern "C" fn captions_drop_zero_durations(
+    table: &[u8],
+    samples: &[u8],
+    table_out: &mut [u8],
+    samples_out: &mut [u8],
+) -> CaptionsDropped
+    ensures { λ r. ⌜ r ≡ flatDropped (dropOf (now (table .entry)) (now (samples .entry)) (length (now («table_out» .entry))) (length (now («samples_out» .entry)))) ⌝ }
+    ensures { λ r. ⌜ now («table_out» .exit) ≡ dropOut (dropOf (now (table .entry)) (now (samples .entry)) (length (now («table_out» .entry))) (length (now («samples_out» .entry)))) (tableOf (lastingOf (now (table .entry)) (now (samples .entry)))) (now («table_out» .entry)) ⌝ }
+    ensures { λ r. ⌜ now («samples_out» .exit) ≡ dropOut (dropOf (now (table .entry)) (now (samples .entry)) (length (now («table_out» .entry))) (length (now («samples_out» .entry)))) (samplesOf (lastingOf (now (table .entry)) (now (samples .entry)))) (now («samples_out» .entry)) ⌝ }
+{
+    let d = table_lasting::drop_zero_durations(table, samples, &mut *table_out, &mut *samples_out);
+    flat_dropped(d)
+}
+
 // The lengths that `captions_vtt_read` needs, or its refusal.
 #[no_mangle]
 pub extern "C" fn captions_vtt_read_room(file: &[u8]) -> CaptionsVttRead
@@ -1203,4 +1350,35 @@ pub extern "C" fn captions_tx3g_next_modifier(sample: &[u8], from: usize) -> Cap
     ensures { λ r. ⌜ r ≡ flatModified (nextModifier (now (sample .entry)) (boxesIn (now (sample .entry)) from (length (now (sample .entry))))) ⌝ }
 {
     flat_modified(tx3g_modifiers::next_modifier(sample, from))
+}
+
+// The lengths that `captions_tx3g_convert` needs, or its refusal.
+#[no_mangle]
+pub extern "C" fn captions_tx3g_convert_room(
+    scale: u32,
+    entry: &[u8],
+    table: &[u8],
+    samples: &[u8],
+) -> CaptionsTx3gConverted
+    ensures { λ r. ⌜ r ≡ flatConverted (convertRoom scale (now (entry .entry)) (now (table .entry)) (now (samples .entry))) ⌝ }
+{
+    flat_converted(tx3g_convert::convert_room(scale, entry, table, samples))
+}
+
+// Converts a `tx3g` track into records and their pool.
+#[no_mangle]
+pub extern "C" fn captions_tx3g_convert(
+    scale: u32,
+    entry: &[u8],
+    table: &[u8],
+    samples: &[u8],
+    records: &mut [u8],
+    pool: &mut [u8],
+) -> CaptionsTx3gConverted
+    ensures { λ r. ⌜ r ≡ flatConverted (convertOf scale (now (entry .entry)) (now (table .entry)) (now (samples .entry)) (length (now (records .entry))) (length (now (pool .entry)))) ⌝ }
+    ensures { λ r. ⌜ now (records .exit) ≡ convertOut (convertOf scale (now (entry .entry)) (now (table .entry)) (now (samples .entry)) (length (now (records .entry))) (length (now (pool .entry)))) (recordsOf scale (stockCues (now (entry .entry)) (now (table .entry)) (now (samples .entry)))) (now (records .entry)) ⌝ }
+    ensures { λ r. ⌜ now (pool .exit) ≡ convertOut (convertOf scale (now (entry .entry)) (now (table .entry)) (now (samples .entry)) (length (now (records .entry))) (length (now (pool .entry)))) (poolOf (stockCues (now (entry .entry)) (now (table .entry)) (now (samples .entry)))) (now (pool .entry)) ⌝ }
+{
+    let c = tx3g_convert::convert(scale, entry, table, samples, &mut *records, &mut *pool);
+    flat_converted(c)
 }

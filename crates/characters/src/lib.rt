@@ -62,7 +62,8 @@ fn count_from(s: &[u8], from: usize) -> usize
     n
 }
 
-fn count_firsts(s: &[u8]) -> usize
+// How many bytes of a text begin a character of UTF-8.
+pub fn count_firsts(s: &[u8]) -> usize
     ensures { λ r. ⌜ r ≡ firsts (now (s .entry)) ⌝ }
 {
     let mut n = 0;

@@ -1,5 +1,5 @@
 -- The samples of a track against the records of a list: one turn after the other, by a window over the records.
-use Prim.Native.Nat.{ℕ, zero, suc, _+_, _-_, _*_, _≤_, _<_}
+use Prim.Native.Nat.{ℕ, zero, suc, _+_, _-_, _≤_, _<_}
 use mathlib.Core.Path.{_≡_, refl, sym, ap, _∙_}
 use mathlib.Core.Bool.{Bool, true, false}
 use mathlib.Core.List.{List, [], _∷_}
@@ -30,8 +30,10 @@ use Rattle.wvtt_cues.specs.Cues.{textOf, heldBy, sampleCues, nextCue}
 use Rattle.wvtt_cues.specs.Walk.{heldFrom, Next}
 use Rattle.wvtt_cues.proofs.Walk.{next-means}
 use Rattle.verdict.specs.declared.Verdict.the-variants.{Fine}
-use Rattle.track.specs.Track.{rowCount, durationOf, sizeOf, offsetOf, bytesOf, sampleOf, trackOf, judgeTrack}
-use Rattle.track.proofs.Laws.{offset-suc, offset-most, fine-readable}
+use Rattle.table.specs.Table.{rowCount, durationOf, sizeOf, offsetOf, bytesOf}
+use Rattle.track.specs.Track.{sampleOf, trackOf, judgeTrack}
+use Rattle.table.proofs.Laws.{offset-suc, laid-inside}
+use Rattle.track.proofs.Laws.{fine-readable}
 use Rattle.conform.specs.declared.Stretch.{Stretch}
 use Rattle.conform.specs.declared.Window.{Window}
 use Rattle.conform.specs.declared.Met.{Met}
@@ -226,15 +228,11 @@ from-start s = refl
 -- ---- the samples, one after the other
 
 pub few-rows : (table samples : List ℕ) → judgeTrack table samples ≡ Fine → rowCount table ≤ 65536
-few-rows table samples e = fine-readable table samples e .0 .count
-
-pub in-table : (table : List ℕ) (i : ℕ) → i < rowCount table → i * 8 + 8 ≤ length table
-unfolding rowCount
-in-table table i h = omega arith
+few-rows table samples e = fine-readable table samples e .0 .laid .count
 
 -- the bytes of sample i end within the samples
 pub row-inside : (table samples : List ℕ) (i : ℕ) → judgeTrack table samples ≡ Fine → i < rowCount table → offsetOf table i + sizeOf table i ≤ length samples
-row-inside table samples i e h = omega (arith, fine-readable table samples e .0 .used, offset-most table (suc i) (rowCount table) h, offset-suc table i)
+row-inside table samples i e h = omega (arith, laid-inside table samples (fine-readable table samples e .0 .laid) i h, offset-suc table i)
 
 module _ (cues : List Cue) (T : ℕ) (table samples : List ℕ) where
   -- the answer from sample i on, which begins at b

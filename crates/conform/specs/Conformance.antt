@@ -10,7 +10,8 @@ use Rattle.times.specs.Times.{tick}
 use Rattle.timeline.specs.Checking.{Answer, accepted, wrong, short, check, Means}
 use Rattle.cues.specs.Judgement.{judgeList}
 use Rattle.cues.specs.List.{cuesOf}
-use Rattle.track.specs.Track.{rowCount, judgeTrack, trackOf}
+use Rattle.table.specs.Table.{rowCount}
+use Rattle.track.specs.Track.{judgeTrack, trackOf}
 use Rattle.conform.specs.declared.Checked.{Checked}
 use Rattle.conform.specs.declared.Checked.the-variants.{Passed, BadList, BadTrack}
 

@@ -53,7 +53,7 @@ fn judge_texts(identifier: &[u8], settings: &[u8], payload: &[u8], place: usize)
     text_at(place, judge_payload(payload))
 }
 
-fn bad_times(scale: u32, t: u32, start: u32, end: u32) -> bool
+pub fn bad_times(scale: u32, t: u32, start: u32, end: u32) -> bool
     ensures { λ r. ⌜ r ≡ badTimes scale t start end ⌝ }
 {
     if end <= start {

@@ -28,7 +28,8 @@ use Rattle.cues.specs.List.{bodyOf as bodyOf-List, cueOf, cuesOf, captionsOf}
 use Rattle.records.specs.Records.{count, sourceId, startMs, endMs, textOffset, identifierLength, settingsLength, payloadLength, reserved, settingsOffset, payloadOffset, textsEnd, piece, identifierOf, settingsOf, payloadOf}
 use Rattle.cues.specs.Caption.{longTexts, judgeTexts, badTimes as badTimes-Caption, judgeContent, judgeCaption}
 use Rattle.cues.specs.Judgement.{badValue, pastPool, captionOf, startBefore, judgeRecord, stoodEarlier, judgeIds, judgeList}
-use Rattle.track.specs.Track.{rowCount, durationOf, sizeOf, offsetOf, bytesOf, judgeRow, judgeTrack, sampleOf, trackOf}
+use Rattle.table.specs.Table.{rowCount, durationOf, sizeOf, offsetOf, bytesOf, judgeSize, judgeRow, judgeRowBy, judgeWhole, judgeLeft, judgeRows}
+use Rattle.track.specs.Track.{judgeTrack, sampleOf, trackOf}
 use Rattle.pack.specs.Packing.{packedTrack, rowBytes, tableBytes, samplesBytes, sizesOf, packRoom, packedOf}
 use Rattle.records_write.specs.Records.{recordBytes, recordOf, textsOf, poolTo, recordsTo, poolOf, recordsOf}
 use Rattle.unpack.specs.Unpacking.{trackCues, trackMs, badTimes, judgeTimes, judgeEnd, judgeUnpack, doneWith, unpackRoom, unpackOf}
@@ -45,5 +46,5 @@ use Rattle.report.specs.Report.{listText, usable, answerText}
 use Rattle.demands.specs.Cases.{rowBytes as rowBytes-here, rowsBytes, rowsPool, heldBy as heldBy-here, timesOf, askPacking, askUnpacking, asked, cases, CasesHold}
 
 pub cases-hold : CasesHold
-unfolding within sameList firstFrom first over wrote fault badText each two three timeText timesText timingText cueText fileOf captionsOf fileBytes writeRoom writtenOf be bytes isTail firsts isHigh isLow utf16 firstUnits mark tx3gText characterCount charactersOf judgedBy notInLine notInPayload identifierText payloadText labelText webvtt configurationText startsWith startsWithAny hasAny endsIn beginsLine endsLine rows followIn follow judge utf8 classOf classTable tick quotientUp back scaleAllowed timelineAllowed runs chosen runningAt sameId sameBody listed edges marks insert sorted stretches heldOver packed blank copy total beginOf endOf heldOf heldFrom heldAt noCue fresh till indexOf hasId hasNewer goesOn readBody readAll readFrom unpack stepAt boxesF boxesIn passed times among judged part boxBytes itemBytes laid line single judgeId judgeText judgeBody inCue judgeCue inSample judgeSample nowhere placed bodyOf placesOf withId partsOf textOf heldBy cuesIn sampleCues nextCue textItems cueItems cueBytes cuesBytes sampleBytes pooled textsSize cueSize bodyOf-List cueOf cuesOf count sourceId startMs endMs textOffset identifierLength settingsLength payloadLength reserved settingsOffset payloadOffset textsEnd piece identifierOf settingsOf payloadOf badValue pastPool captionOf startBefore longTexts judgeTexts badTimes-Caption judgeContent judgeRecord stoodEarlier judgeIds judgeList rowCount durationOf sizeOf offsetOf bytesOf judgeRow judgeTrack sampleOf trackOf packedTrack rowBytes tableBytes samplesBytes sizesOf packRoom packedOf recordBytes recordOf textsOf poolTo recordsTo poolOf recordsOf trackCues trackMs badTimes judgeTimes judgeEnd judgeUnpack doneWith unpackRoom unpackOf judgeCaption front behind-Times digit shaped minutesMs hoursMs timeOf linesOf joined filled blocksFrom holdsArrow someArrow blank-Timing unblank edge trimmedEnd trimmed afterWord timingOf opens names plainKind laterKind kindOf judgeKind judgeBlocks cuesIn-Reading unmarked badHeader judgeLines cuesOfLines judgeFile fileCues cueWith numberedFrom fileRecords filePool readRoom readOf digits decimal valueFrom value isDigit top before behind allDigits written lineOf numberText pairText rowText rowsText word refusalText listText usable answerText rowBytes-here rowsBytes rowsPool heldBy-here timesOf askPacking askUnpacking asked cases
+unfolding within sameList firstFrom first over wrote fault badText each two three timeText timesText timingText cueText fileOf captionsOf fileBytes writeRoom writtenOf be bytes isTail firsts isHigh isLow utf16 firstUnits mark tx3gText characterCount charactersOf judgedBy notInLine notInPayload identifierText payloadText labelText webvtt configurationText startsWith startsWithAny hasAny endsIn beginsLine endsLine rows followIn follow judge utf8 classOf classTable tick quotientUp back scaleAllowed timelineAllowed runs chosen runningAt sameId sameBody listed edges marks insert sorted stretches heldOver packed blank copy total beginOf endOf heldOf heldFrom heldAt noCue fresh till indexOf hasId hasNewer goesOn readBody readAll readFrom unpack stepAt boxesF boxesIn passed times among judged part boxBytes itemBytes laid line single judgeId judgeText judgeBody inCue judgeCue inSample judgeSample nowhere placed bodyOf placesOf withId partsOf textOf heldBy cuesIn sampleCues nextCue textItems cueItems cueBytes cuesBytes sampleBytes pooled textsSize cueSize bodyOf-List cueOf cuesOf count sourceId startMs endMs textOffset identifierLength settingsLength payloadLength reserved settingsOffset payloadOffset textsEnd piece identifierOf settingsOf payloadOf badValue pastPool captionOf startBefore longTexts judgeTexts badTimes-Caption judgeContent judgeRecord stoodEarlier judgeIds judgeList rowCount durationOf sizeOf offsetOf bytesOf judgeSize judgeRow judgeRowBy judgeWhole judgeLeft judgeRows judgeTrack sampleOf trackOf packedTrack rowBytes tableBytes samplesBytes sizesOf packRoom packedOf recordBytes recordOf textsOf poolTo recordsTo poolOf recordsOf trackCues trackMs badTimes judgeTimes judgeEnd judgeUnpack doneWith unpackRoom unpackOf judgeCaption front behind-Times digit shaped minutesMs hoursMs timeOf linesOf joined filled blocksFrom holdsArrow someArrow blank-Timing unblank edge trimmedEnd trimmed afterWord timingOf opens names plainKind laterKind kindOf judgeKind judgeBlocks cuesIn-Reading unmarked badHeader judgeLines cuesOfLines judgeFile fileCues cueWith numberedFrom fileRecords filePool readRoom readOf digits decimal valueFrom value isDigit top before behind allDigits written lineOf numberText pairText rowText rowsText word refusalText listText usable answerText rowBytes-here rowsBytes rowsPool heldBy-here timesOf askPacking askUnpacking asked cases
 cases-hold = refl

@@ -22,7 +22,8 @@ use Rattle.timeline.proofs.Fewest.{fewest}
 use Rattle.cues.specs.Judgement.{judgeList}
 use Rattle.cues.specs.List.{cuesOf}
 use Rattle.cues.proofs.Sound.{fine-proper}
-use Rattle.track.specs.Track.{rowCount, trackOf, judgeTrack, Readable}
+use Rattle.table.specs.Table.{rowCount}
+use Rattle.track.specs.Track.{trackOf, judgeTrack, Readable}
 use Rattle.track.proofs.Laws.{fine-readable, readable-fine}
 use Rattle.track.proofs.Samples.{length-track, rows-positive, positive-rows}
 use Rattle.pack.specs.declared.Packed.{Packed}

@@ -3,6 +3,7 @@ pub mod Demands
 pub mod Unpacking
 pub mod Files
 pub mod FilesOut
+pub mod Stock
 pub mod Offsets
 pub mod Refusals
 pub mod Cases

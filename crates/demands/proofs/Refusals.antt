@@ -20,9 +20,10 @@ use Rattle.viable.specs.declared.Judged.{Judged}
 use Rattle.viable.specs.declared.Judged.the-variants.{Right, Bad as BadAt}
 use Rattle.viable.specs.FirstBad.{FirstBad, Passes, judgedBy, JudgedIs}
 use Rattle.fields.specs.BigEndian.{be}
+use Rattle.text.proofs.Rules.{empty-line}
 use Rattle.text.specs.Rules.{identifierText, payloadText, configurationText, labelText}
 use Rattle.text.specs.Beginnings.{identifierBegun, payloadBegun, configurationBegun, labelBegun}
-use Rattle.times.specs.Times.{tick, scaleAllowed, timelineAllowed}
+use Rattle.times.specs.Times.{back, tick, scaleAllowed, timelineAllowed}
 use Rattle.timeline.specs.Cues.{Body, Cue, sameBody}
 use Rattle.timeline.specs.Tracks.{Sample}
 use Rattle.timeline.specs.Unpacking.{Known, faulty, known, Unpacked as Listing, stopped, done, noCue, fresh, till, indexOf, hasId, hasNewer, goesOn, byIndex, ifNamed, readBody, onKnown, readAll, onRead, readFrom, unpack}
@@ -41,10 +42,11 @@ use Rattle.wvtt.specs.Kinds.{vttc, vtte, vsid, payl, line, single}
 use Rattle.wvtt_cues.specs.declared.Parts.{Parts}
 use Rattle.wvtt_cues.specs.Cues.{partsOf, ifWhole, innerOf, cueBy, nextCue}
 use Rattle.wvtt_entry.specs.Entry.{wvtt, vttC, vlab, judgeContent, inEntry, endEntry, judgeEntry}
-use Rattle.cues.specs.Caption.{longTexts, judgeTexts, badTimes as badCaptionTimes, judgeContent as judgeCaptionContent}
+use Rattle.cues.specs.Caption.{judgeCaption, longTexts, judgeTexts, badTimes as badCaptionTimes, judgeContent as judgeCaptionContent}
 use Rattle.cues.specs.Judgement.{badValue, pastPool, captionOf, startBefore, judgeRecord, stoodEarlier, twiceAt, judgeIds, judgeList}
 use Rattle.cues.specs.List.{cuesOf}
-use Rattle.track.specs.Track.{rowCount, durationOf, sizeOf, offsetOf, bytesOf, trackOf, placedAt, judgeRow, judgeTrack}
+use Rattle.table.specs.Table.{rowCount, durationOf, sizeOf, offsetOf, bytesOf, placedAt, judgeSize, judgeRow, judgeRowBy, judgeWhole, judgeLeft, judgeRows}
+use Rattle.track.specs.Track.{trackOf, judgeTrack}
 use Rattle.timeline.specs.Checking.{Answer, accepted, wrong, short, check}
 use Rattle.conform.specs.Conformance.{answered, trackVerdict, ofTrack, unlessList, checked}
 use Rattle.pack.specs.declared.Packed.{Packed}
@@ -78,8 +80,19 @@ use Rattle.tx3g_style.specs.Style.{inForce, stylesOf, styledBy, styleOf, faultO
 use Rattle.wvtt_entry_write.specs.declared.Written.the-variants.{Done as WrittenDone, Refused as NotWritten}
 use Rattle.wvtt_entry_write.specs.Writing.{entrySize, judgeLabel, judgeTexts as judgeEntryTexts, judgeWritten, unlessFaulty as unlessWritten, roomOf, lent, writtenOf}
 use Rattle.tx3g_box.specs.TextBox.{boxesOf, spotIn, spotBy, spotOf}
-use Rattle.demands.specs.Offsets.{bodyAt, Inside, InSample, InEntry, InWritten, InConfiguration, InTexts, InRecord, InFile, InTrack, InText, InTx3g, Never}
-use Rattle.demands.specs.Refusals.{InTable, Listed, CheckListed, WriteListed, packing, unpacking, reading, writing, ofBox, ofCue, ofModifier, RefusalsAre}
+use Rattle.table.specs.Parts.{tableOf, contentOf}
+use Rattle.table_lasting.specs.declared.Dropped.{Dropped}
+use Rattle.table_lasting.specs.declared.Dropped.the-variants.{Done as Drops, Refused as NotDropped}
+use Rattle.table_lasting.specs.Lasting.{lastingOf}
+use Rattle.table_lasting.specs.Dropping.{judgeDrop, sizesOf as sizesOfParts, unlessFaulty as unlessDropped, dropRoom, roomed as roomedParts, dropOf}
+use Rattle.tx3g_payload_write.specs.Sample.{payloadIn}
+use Rattle.tx3g_stock.specs.Stock.{countsOf, judgeStock}
+use Rattle.tx3g_convert.specs.declared.Converted.{Converted}
+use Rattle.tx3g_convert.specs.declared.Converted.the-variants.{NoRoom as NoRoomLeft}
+use Rattle.tx3g_convert.specs.Convert.{Told, toldOf, hasText, counting, stockCues, stockMs, judgeTold, judgeTolds, judgeCues, byEntry, byTrack, doneWith as doneConversion, convertRoom, roomed as roomedStock, convertOf}
+use Rattle.tx3g_convert_laws.proofs.Samples.{noTold, length-told, told-at}
+use Rattle.demands.specs.Offsets.{bodyAt, Inside, InSample, InEntry, InWritten, InConfiguration, InTexts, InRecord, InFile, InTrack, InText, InTx3g, InStock, Never}
+use Rattle.demands.specs.Refusals.{InTable, Listed, CheckListed, WriteListed, ConvertListed, dropping, packing, unpacking, reading, writing, ofBox, ofCue, ofModifier, RefusalsAre}
 use Rattle.demands.proofs.Offsets.{offsets-are}
 
 -- ---- judgements
@@ -494,15 +507,28 @@ unfolding moved
 placed-listed Says Worse i Fine f h = tt
 placed-listed Says Worse i (Refused r) f h = (h .0, h .1, λ e. f (r .place) (r .offset) (h .2 e))
 
+size-listed : (Says : ℕ → ℕ → Type 0) (table samples : List ℕ) (i : ℕ) → Listed Says (judgeSize table samples i)
+unfolding judgeSize
+size-listed Says table samples i = more Says (eqb (sizeOf table i) 0) 4 i _ refl (given Says (ltb (length samples) (offsetOf table (suc i))) 1 i refl)
+
+row-listed : (Says : ℕ → ℕ → Type 0) (read : List ℕ → Verdict) (table samples : List ℕ) (i : ℕ) → Listed Says (placedAt i (read (bytesOf table samples i)))
+    → Listed Says (judgeRowBy read table samples i)
+unfolding judgeRowBy judgeRow
+row-listed Says read table samples i k = next Says (judgeRow table samples i) _ (more Says (eqb (durationOf table i) 0) 10 i _ refl (size-listed Says table samples i)) k
+
+rows-listed : (Says : ℕ → ℕ → Type 0) (row : ℕ → Verdict) (table samples : List ℕ) → ((i : ℕ) → i < rowCount table → Listed Says (row i)) → Listed Says (judgeRows row table samples)
+unfolding judgeRows judgeWhole judgeLeft
+rows-listed Says row table samples k =
+    next Says (judgeWhole table) _ (more Says (not (eqb (length table % 8) 0)) 1 0 _ refl (given Says (ltb 65536 (rowCount table)) 9 0 refl))
+    (next Says (each row (rowCount table)) _ (all Says row (rowCount table) k)
+    (given Says (ltb (offsetOf table (rowCount table)) (length samples)) 2 (rowCount table) refl))
+
 track-listed : (table samples : List ℕ) → Listed (InTrack table samples) (judgeTrack table samples)
-unfolding judgeTrack judgeRow
+unfolding judgeTrack
 track-listed table samples =
-    more (InTrack table samples) (not (eqb (length table % 8) 0)) 1 0 _ refl (more (InTrack table samples) (ltb 65536 (rowCount table)) 9 0 _ refl
-    (next (InTrack table samples) (each (judgeRow table samples) (rowCount table)) _
-    (all (InTrack table samples) (judgeRow table samples) (rowCount table) (λ i l. more (InTrack table samples) (eqb (durationOf table i) 0) 10 i _ refl (more (InTrack table samples) (eqb (sizeOf table i) 0) 4 i _ refl
-    (more (InTrack table samples) (ltb (length samples) (offsetOf table (suc i))) 1 i _ refl
-    (placed-listed (InSample (bytesOf table samples i)) (InTrack table samples) i (judgeSample (bytesOf table samples i)) (λ p q b. (l, (p, b))) (sample-listed (bytesOf table samples i)))))))
-    (given (InTrack table samples) (ltb (offsetOf table (rowCount table)) (length samples)) 2 (rowCount table) refl)))
+    rows-listed (InTrack table samples) (judgeRowBy judgeSample table samples) table samples
+    (λ i l. row-listed (InTrack table samples) judgeSample table samples i
+    (placed-listed (InSample (bytesOf table samples i)) (InTrack table samples) i (judgeSample (bytesOf table samples i)) (λ p q b. (l, (p, b))) (sample-listed (bytesOf table samples i))))
 
 check-listed : (scale T : ℕ) (records pool table samples : List ℕ) → CheckListed records pool table samples (checked scale T records pool table samples)
 unfolding checked
@@ -626,6 +652,85 @@ box-listed e s = go (readSample e s) (read-listed e s)
     go (BadSample r) h = h
     go (Good n) h = stands (boxesOf s) (found-listed (InTx3g s) tbox (boxesIn s (textEnd s) (length s)) (boxes-listed (InTx3g s) s (textEnd s) (length s)))
 
+-- ---- `tx3g` tracks
+
+-- an empty text has no bad byte
+empty-right : (q : ℕ) → FirstBad (Passes identifierText) [] q → ⊥
+empty-right q f = ⊎-elim (λ w. w .1 empty-line) (λ w. omega arith) (f .then)
+
+module _ (Says : ℕ → ℕ → Type 0) (scale : ℕ) where
+  told-listed : (text : Bool) (k b i : ℕ) (s : Told) → ((q : ℕ) → FirstBad (Passes payloadText) (s .payload) q → Says i q) → Listed Says (judgeTold text scale k b i s)
+  unfolding judgeCaption judgeCaptionContent
+  told-listed false k b i s f = tt
+  told-listed true k b i s f =
+      more Says (leb 1024 k) 9 i _ refl
+      (more Says (longTexts (length {A = ℕ} []) (length {A = ℕ} []) (length (s .payload))) 9 i _ refl
+      (next Says (judgeTexts [] [] (s .payload) i) _ (texts-listed Says [] [] (s .payload) i by-payload)
+      (more Says (badCaptionTimes scale 359999999 (back scale b) (back scale (b + s .duration))) 10 i _ refl (given Says (ltb (back scale b) 0) 11 i refl))))
+    where
+      by-payload : (q : ℕ) → InTexts [] [] (s .payload) q → Says i q
+      by-payload q (inl w) = absurd (empty-right q w)
+      by-payload q (inr (inl w)) = absurd (empty-right q (w .1))
+      by-payload q (inr (inr w)) = f q (w .2)
+
+  tolds-listed : (k b i : ℕ) (ss : List Told) → ((j : ℕ) → j < length ss → (q : ℕ) → FirstBad (Passes payloadText) (getD ss j noTold .payload) q → Says (i + j) q) → Listed Says (judgeTolds scale k b i ss)
+  unfolding judgeTolds
+  tolds-listed k b i [] f = tt
+  tolds-listed k b i (s ∷ ss) f =
+      let z : i + 0 ≡ i = omega arith in
+      next Says (judgeTold (hasText (s .payload)) scale k b i s) _
+      (told-listed (hasText (s .payload)) k b i s (λ q w. subst (λ (x : ℕ). Says x q) z (f 0 (omega arith) q w)))
+      (tolds-listed (counting (hasText (s .payload)) k) (b + s .duration) (suc i) ss
+      (λ j l q w. let y : i + suc j ≡ suc i + j = omega arith in subst (λ (x : ℕ). Says x q) y (f (suc j) (omega arith) q w)))
+
+stock-listed : (scale : ℕ) (e table samples : List ℕ) → Listed (InStock e table samples) (judgeCues scale e table samples)
+unfolding judgeCues judgeStock
+stock-listed scale e table samples =
+    let Says : ℕ → ℕ → Type 0 = InStock e table samples in
+    next Says (judgeRows (judgeRowBy (judgeTx3gSample e) table samples) table samples) _
+    (rows-listed Says (judgeRowBy (judgeTx3gSample e) table samples) table samples
+    (λ i l. row-listed Says (judgeTx3gSample e) table samples i
+    (placed-listed (InTx3g (bytesOf table samples i)) Says i (judgeTx3gSample e (bytesOf table samples i)) (λ p q w. (l, inl (w .1))) (tx3g-sample-listed e (bytesOf table samples i)))))
+    (next Says (judgeTolds scale 0 0 0 (toldOf e table samples)) _
+    (tolds-listed Says scale 0 0 0 (toldOf e table samples)
+    (λ j l q w. let h : j < rowCount table = omega (arith, l, length-told e table samples) in
+    let z : 0 + j ≡ j = omega arith in
+    subst (λ (x : ℕ). Says x q) (sym z) (h, inr (subst (λ (t : Told). FirstBad (Passes payloadText) (t .payload) q) (told-at e table samples j h) w))))
+    (given Says (not (timelineAllowed scale (stockMs scale e table samples))) 10 (length (stockCues e table samples)) refl))
+
+convert-listed : (scale : ℕ) (e table samples : List ℕ) (recordsRoom poolRoom : ℕ) → ConvertListed e table samples (convertOf scale e table samples recordsRoom poolRoom)
+unfolding convertOf convertRoom fault doneConversion
+convert-listed scale e table samples a b =
+    go (not (scaleAllowed scale) gives 10 at 0) (judgeTx3gEntry e) (judgeCues scale e table samples) (doneConversion scale (stockMs scale e table samples) (stockCues e table samples) (countsOf table samples))
+    (given (InStock e table samples) (not (scaleAllowed scale)) 10 0 refl) (tx3g-entry-listed Never e) (stock-listed scale e table samples)
+    (short (ltb a (length (recordsOf scale (stockCues e table samples)))) (ltb b (length (poolOf (stockCues e table samples)))) _ tt)
+  where
+    short : (x y : Bool) (c : Converted) → ConvertListed e table samples c → ConvertListed e table samples (pick x (NoRoomLeft (fault 15 0)) (pick y (NoRoomLeft (fault 15 1)) c))
+    short true y c k = given Never true 15 0 refl
+    short false true c k = given Never true 15 1 refl
+    short false false c k = k
+
+    go : (u v w : Verdict) (c : Converted) → Listed (InStock e table samples) u → Listed Never v → Listed (InStock e table samples) w → ConvertListed e table samples (roomedStock a b c)
+        → ConvertListed e table samples (roomedStock a b (byTrack u (byEntry v (byTrack w c))))
+    go (Refused r) v w c f g h k = f
+    go Fine (Refused r) w c f g h k = g
+    go Fine Fine (Refused r) c f g h k = h
+    go Fine Fine Fine c f g h k = k
+
+drop-listed : (table samples : List ℕ) (tableRoom samplesRoom : ℕ) → Listed Never (dropping (dropOf table samples tableRoom samplesRoom))
+unfolding dropOf dropRoom judgeDrop sizesOfParts fault
+drop-listed table samples a b =
+    go (judgeDrop table samples) (rows-listed Never (judgeSize table samples) table samples (λ i l. size-listed Never table samples i))
+  where
+    short : (x y : Bool) (d : Dropped) → Listed Never (dropping d) → Listed Never (dropping (pick x (NotDropped (fault 15 0)) (pick y (NotDropped (fault 15 1)) d)))
+    short true y d k = given Never true 15 0 refl
+    short false true d k = given Never true 15 1 refl
+    short false false d k = k
+
+    go : (v : Verdict) → Listed Never v → Listed Never (dropping (roomedParts a b (unlessDropped v (sizesOfParts (lastingOf table samples)))))
+    go (Refused r) h = h
+    go Fine h = short (ltb a (length (tableOf (lastingOf table samples)))) (ltb b (length (contentOf (lastingOf table samples)))) _ tt
+
 -- ---- an entry that is written
 
 written-listed : (c : List ℕ) (l : Option (List ℕ)) → Listed (InWritten c l) (judgeWritten c l)
@@ -686,6 +791,8 @@ refusals-are = record {
   unpack = unpack-listed;
   file = file-listed;
   write-file = write-file-listed;
+  convert = convert-listed;
+  drop = drop-listed;
   tx3g-entry = tx3g-entry-listed Never;
   tx3g-sample = read-listed;
   modifier = λ s from. next-modifier-listed Never s (boxesIn s from (length s)) (boxes-listed Never s from (length s));

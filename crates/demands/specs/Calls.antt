@@ -11,6 +11,12 @@ use Rattle.conform.specs.Conformance.{checked}
 use Rattle.records_write.specs.Records.{recordsOf, poolOf}
 use Rattle.unpack.specs.declared.Unpacked.{Unpacked}
 use Rattle.unpack.specs.Unpacking.{trackCues, unpackOf, outOf}
+use Rattle.table.specs.Parts.{tableOf, contentOf}
+use Rattle.table_lasting.specs.declared.Dropped.{Dropped}
+use Rattle.table_lasting.specs.Lasting.{lastingOf}
+use Rattle.table_lasting.specs.Dropping.{dropOf, outOf as dropOut}
+use Rattle.tx3g_convert.specs.declared.Converted.{Converted}
+use Rattle.tx3g_convert.specs.Convert.{stockCues, convertOf, outOf as convertOut}
 use Rattle.vtt_read.specs.declared.FileRead.{FileRead}
 use Rattle.vtt_read.specs.Reading.{fileRecords, filePool, readOf, outOf as fileOut}
 use Rattle.vtt_write.specs.declared.FileWritten.{FileWritten}
@@ -42,3 +48,15 @@ pub record ReadCall (file records pool recordsAfter poolAfter : List ℕ) (answe
 pub record WriteCall (configuration records pool file after : List ℕ) (answer : FileWritten) : Type 0 where
   pub answers : answer ≡ writtenOf configuration records pool (length file)
   pub file-holds : after ≡ fileAfter answer (fileBytes configuration records pool) file
+
+-- `tx3g_convert::convert`, which is lent records and a pool to write
+pub record ConvertCall (scale : ℕ) (entry table samples records pool recordsAfter poolAfter : List ℕ) (answer : Converted) : Type 0 where
+  pub answers : answer ≡ convertOf scale entry table samples (length records) (length pool)
+  pub records-hold : recordsAfter ≡ convertOut answer (recordsOf scale (stockCues entry table samples)) records
+  pub pool-holds : poolAfter ≡ convertOut answer (poolOf (stockCues entry table samples)) pool
+
+-- `table_lasting::drop_zero_durations`, which is lent a table and samples to write
+pub record DropCall (table samples rows content rowsAfter contentAfter : List ℕ) (answer : Dropped) : Type 0 where
+  pub answers : answer ≡ dropOf table samples (length rows) (length content)
+  pub rows-hold : rowsAfter ≡ dropOut answer (tableOf (lastingOf table samples)) rows
+  pub content-holds : contentAfter ≡ dropOut answer (contentOf (lastingOf table samples)) content

@@ -15,7 +15,8 @@ use Rattle.timeline.specs.Packing.{Honest}
 use Rattle.timeline.specs.Checking.{Bad, Good}
 use Rattle.cues.specs.Judgement.{judgeList}
 use Rattle.cues.specs.List.{cuesOf}
-use Rattle.track.specs.Track.{rowCount, durationOf, trackOf, judgeTrack, Readable}
+use Rattle.table.specs.Table.{rowCount, durationOf}
+use Rattle.track.specs.Track.{trackOf, judgeTrack, Readable}
 use Rattle.pack.specs.declared.Packed.the-variants.{Done}
 use Rattle.conform.specs.declared.Checked.{Checked}
 use Rattle.conform.specs.declared.Checked.the-variants.{Passed, BadList, BadTrack}

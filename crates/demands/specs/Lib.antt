@@ -5,6 +5,7 @@ pub mod Checking
 pub mod Unpacking
 pub mod Files
 pub mod FilesOut
+pub mod Stock
 pub mod Offsets
 pub mod Refusals
 pub mod Cases

@@ -17,12 +17,13 @@ use Rattle.boxes.specs.Boxes.{part}
 use Rattle.wvtt.specs.Kinds.{payl, line}
 use Rattle.wvtt_entry.specs.Entry.{vttC, vlab}
 use Rattle.records.specs.Records.{count, identifierOf, settingsOf, payloadOf}
-use Rattle.track.specs.Track.{rowCount, bytesOf}
+use Rattle.table.specs.Table.{rowCount, bytesOf}
 use Rattle.vtt_lines.specs.Lines.{linesOf, joined, filled}
 use Rattle.vtt_timing.specs.Timing.{Timing}
 use Rattle.vtt_timing.specs.Grammar.{TimingLine}
 use Rattle.vtt_read.specs.Reading.{unmarked}
 use Rattle.tx3g_sample.specs.Sample.{textEnd}
+use Rattle.tx3g_payload_write.specs.Sample.{payloadIn}
 
 -- a text is answered to be right exactly if it keeps its rule, and bad at q exactly if q is its first bad byte
 pub record OffsetsAre : Type 0 where
@@ -97,6 +98,12 @@ InText s p q = (p ≡ 0) × FirstBad (Passes tx3gText) s q
 
 abbrev pub InTx3g : List ℕ → ℕ → ℕ → Type 0
 InTx3g s p q = InText (part s 2 (textEnd s)) p q
+
+-- of a `tx3g` track: in the text of sample i; or else in the payload that is made of it
+abbrev pub InStock : List ℕ → List ℕ → List ℕ → ℕ → ℕ → Type 0
+InStock e table samples i q =
+    let s = bytesOf table samples i in
+    (i < rowCount table) × (FirstBad (Passes tx3gText) (part s 2 (textEnd s)) q ⊎ FirstBad (Passes payloadText) (payloadIn e s) q)
 
 -- where no text is judged, 6 never comes
 abbrev pub Never : ℕ → ℕ → Type 0

@@ -12,7 +12,8 @@ use Rattle.timeline.specs.Packing.{packed}
 use Rattle.records.specs.Records.{count}
 use Rattle.cues.specs.Judgement.{judgeList}
 use Rattle.cues.specs.List.{cuesOf}
-use Rattle.track.specs.Track.{rowCount, trackOf, Readable}
+use Rattle.table.specs.Table.{rowCount}
+use Rattle.track.specs.Track.{trackOf, Readable}
 use Rattle.pack.specs.declared.Packed.{Packed}
 use Rattle.pack.specs.declared.Packed.the-variants.{Done, Refused}
 use Rattle.pack.specs.Packing.{tableBytes, samplesBytes, packRoom}

@@ -35,6 +35,12 @@ use Rattle.vtt_read.specs.Reading.{readOf}
 use Rattle.vtt_write.specs.declared.FileWritten.{FileWritten}
 use Rattle.vtt_write.specs.declared.FileWritten.the-variants.{Done as FileDone, BadConfiguration, BadList as BadCues, NoRoom}
 use Rattle.vtt_write.specs.Writing.{writtenOf as fileWritten}
+use Rattle.table_lasting.specs.declared.Dropped.{Dropped}
+use Rattle.table_lasting.specs.declared.Dropped.the-variants.{Done as Drops, Refused as NotDropped}
+use Rattle.table_lasting.specs.Dropping.{dropOf}
+use Rattle.tx3g_convert.specs.declared.Converted.{Converted}
+use Rattle.tx3g_convert.specs.declared.Converted.the-variants.{Done as Converts, BadEntry, BadTrack as BadStock, NoRoom as NoRoomLeft}
+use Rattle.tx3g_convert.specs.Convert.{convertOf}
 use Rattle.tx3g_entry.specs.Entry.{judgeEntry as judgeTx3gEntry}
 use Rattle.tx3g_sample.specs.Sample.{countedAt, readSample, verdictOf}
 use Rattle.tx3g_modifiers.specs.declared.Held.{Held as Modifier}
@@ -44,7 +50,7 @@ use Rattle.tx3g_style.specs.Style.{styleOf, faultOf}
 use Rattle.tx3g_box.specs.declared.Spot.{Spot}
 use Rattle.tx3g_box.specs.declared.Spot.the-variants.{Sample as SampleBox, Entry as EntryBox, BadEntry as BoxEntry, BadSample as BoxSample}
 use Rattle.tx3g_box.specs.TextBox.{spotOf}
-use Rattle.demands.specs.Offsets.{InSample, InEntry, InWritten, InConfiguration, InRecord, InFile, InTrack, InText, InTx3g, Never}
+use Rattle.demands.specs.Offsets.{InSample, InEntry, InWritten, InConfiguration, InRecord, InFile, InTrack, InText, InTx3g, InStock, Never}
 
 -- the numbers of refusals: 1 to 19
 abbrev pub InTable : ℕ → Type 0
@@ -79,6 +85,17 @@ WriteListed configuration records pool (FileDone n) = Unit {0}
 WriteListed configuration records pool (BadConfiguration r) = Listed (InConfiguration configuration) (Refused r)
 WriteListed configuration records pool (BadCues r) = Listed (InRecord records pool) (Refused r)
 WriteListed configuration records pool (NoRoom r) = Listed Never (Refused r)
+
+-- of converting a track: the entry has no text that is judged, and the samples' texts and payloads have; by who is at fault
+abbrev pub ConvertListed : List ℕ → List ℕ → List ℕ → Converted → Type 0
+ConvertListed e table samples (Converts n r p t c) = Unit {0}
+ConvertListed e table samples (BadEntry r) = Listed Never (Refused r)
+ConvertListed e table samples (BadStock r) = Listed (InStock e table samples) (Refused r)
+ConvertListed e table samples (NoRoomLeft r) = Listed Never (Refused r)
+
+abbrev pub dropping : Dropped → Verdict
+dropping (Drops n t b) = Fine
+dropping (NotDropped r) = Refused r
 
 abbrev pub writing : Written → Verdict
 writing (WrittenDone n) = Fine
@@ -115,6 +132,8 @@ pub record RefusalsAre : Type 0 where
   pub unpack : (scale : ℕ) (table samples : List ℕ) (recordsRoom poolRoom : ℕ) → Listed (InTrack table samples) (unpacking (unpackOf scale table samples recordsRoom poolRoom))
   pub file : (file : List ℕ) (recordsRoom poolRoom : ℕ) → Listed (InFile file) (reading (readOf file recordsRoom poolRoom))
   pub write-file : (configuration records pool : List ℕ) (room : ℕ) → WriteListed configuration records pool (fileWritten configuration records pool room)
+  pub convert : (scale : ℕ) (e table samples : List ℕ) (recordsRoom poolRoom : ℕ) → ConvertListed e table samples (convertOf scale e table samples recordsRoom poolRoom)
+  pub drop : (table samples : List ℕ) (tableRoom samplesRoom : ℕ) → Listed Never (dropping (dropOf table samples tableRoom samplesRoom))
   pub tx3g-entry : (e : List ℕ) → Listed Never (judgeTx3gEntry e)
   pub tx3g-sample : (e s : List ℕ) → Listed (InTx3g s) (verdictOf (readSample e s))
   pub modifier : (s : List ℕ) (from : ℕ) → Listed Never (ofModifier (nextModifier s (boxesIn s from (length s))))

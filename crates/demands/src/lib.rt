@@ -3,10 +3,12 @@
 use conform::Checked;
 use conform::check_track;
 use pack::Packed;
+use table_lasting::Dropped;
+use tx3g_convert::Converted;
 use unpack::Unpacked;
 use vtt_read::FileRead;
 use vtt_write::FileWritten;
-ghost use Rattle.demands.specs.Calls.{PackCall, CheckCall, UnpackCall, ReadCall, WriteCall};
+ghost use Rattle.demands.specs.Calls.{PackCall, CheckCall, UnpackCall, ReadCall, WriteCall, ConvertCall, DropCall};
 
 // Packing.
 pub fn pack_list(
@@ -61,4 +63,25 @@ pub fn write_file(configuration: &[u8], records: &[u8], pool: &[u8], file: &mut 
     ensures { λ r. ⌜ WriteCall (now (configuration .entry)) (now (records .entry)) (now (pool .entry)) (now (file .entry)) (now (file .exit)) r ⌝ }
 {
     vtt_write::write(configuration, records, pool, &mut *file)
+}
+
+// Converting a `tx3g` track.
+pub fn convert_track(
+    scale: u32,
+    entry: &[u8],
+    table: &[u8],
+    samples: &[u8],
+    records: &mut [u8],
+    pool: &mut [u8],
+) -> Converted
+    ensures { λ r. ⌜ ConvertCall scale (now (entry .entry)) (now (table .entry)) (now (samples .entry)) (now (records .entry)) (now (pool .entry)) (now (records .exit)) (now (pool .exit)) r ⌝ }
+{
+    tx3g_convert::convert(scale, entry, table, samples, &mut *records, &mut *pool)
+}
+
+// Dropping samples of duration 0.
+pub fn drop_samples(table: &[u8], samples: &[u8], rows: &mut [u8], content: &mut [u8]) -> Dropped
+    ensures { λ r. ⌜ DropCall (now (table .entry)) (now (samples .entry)) (now (rows .entry)) (now (content .entry)) (now (rows .exit)) (now (content .exit)) r ⌝ }
+{
+    table_lasting::drop_zero_durations(table, samples, &mut *rows, &mut *content)
 }

@@ -19,8 +19,10 @@ use Rattle.wvtt_cues.specs.Cues.{sampleCues}
 use Rattle.wvtt_cues.specs.Walk.{heldFrom}
 use Rattle.rows.specs.Table.{Good}
 use native.Mathlib.Nat.{not-suc-le-zero}
-use Rattle.track.specs.Track.{rowCount, durationOf, sizeOf, offsetOf, judgeTrack, sampleOf, trackOf}
-use Rattle.track.proofs.Laws.{bytes-at, offset-most, fine-readable}
+use Rattle.table.specs.Table.{rowCount, durationOf, sizeOf, offsetOf}
+use Rattle.track.specs.Track.{judgeTrack, sampleOf, trackOf}
+use Rattle.table.proofs.Laws.{bytes-at, laid-inside}
+use Rattle.track.proofs.Laws.{fine-readable}
 
 -- ---- the cues of a sample
 
@@ -63,10 +65,10 @@ module _ (table samples : List ℕ) where
 
   -- the bytes of sample i
   pub row-inside : judgeTrack table samples ≡ Fine → (i : ℕ) → i < rowCount table → offsetOf table (suc i) ≤ length samples
-  row-inside f i h = let r = fine-readable table samples f .0 in omega (arith, offset-most table (suc i) (rowCount table) h, r .used)
+  row-inside f i h = laid-inside table samples (fine-readable table samples f .0 .laid) i h
 
   pub rows-most : judgeTrack table samples ≡ Fine → rowCount table ≤ 65536
-  rows-most f = fine-readable table samples f .0 .count
+  rows-most f = fine-readable table samples f .0 .laid .count
 
   module _ (b : ℕ) (i : ℕ) (cs : List Cue) (left : unpackFrom b i cs (drop i (trackOf table samples)) ≡ unpack (trackOf table samples)) where
     pub track-end : rowCount table ≤ i → done cs ≡ unpack (trackOf table samples)

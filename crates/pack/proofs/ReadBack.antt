@@ -1,29 +1,28 @@
 -- Reading a table and samples that were written gives the samples back, and finds no fault in them.
-use Prim.Native.Nat.{ℕ, zero, suc, _+_, _-_, _*_, _^_, _≤_, _<_}
-use mathlib.Core.Path.{_≡_, refl, sym, ap, ap₂, _∙_}
-use mathlib.Core.List.{List, [], _∷_, _++_, append-assoc, append-nil, List·Memᴰ}
+use Prim.Native.Nat.{ℕ, zero, suc, _≤_, _<_}
+use mathlib.Core.Path.{_≡_, refl, sym, ap, ap₂, _∙_, subst}
+use mathlib.Core.List.{List, [], _∷_, map, List·Memᴰ}
 use native.Mathlib.Omega.{arith}
-use native.Mathlib.Nat.{le-refl}
-use lib.ListN.{length, take, drop, getD, length-append}
-use lib.Seq.{take-suc, split-at, length-take-le, take-at, drop-at, take-all, ext-getD}
+use lib.ListN.{length, getD, length-map, List·getD-map}
+use lib.Seq.{ext-getD}
 use Rattle.verdict.specs.declared.Verdict.the-variants.{Fine}
-use Rattle.fields.specs.BigEndian.{be, bytes}
-use Rattle.fields.proofs.BigEndian.{length-bytes, be-written}
-use Rattle.boxes.specs.Boxes.{part}
 use Rattle.timeline.specs.Lists.{listed}
 use Rattle.timeline.specs.Tracks.{Sample, blank}
 use Rattle.timeline.proofs.Indexed.{index-mem}
 use Rattle.timeline.proofs.Listing.{length-listed, listed-at}
 use Rattle.wvtt.specs.Sample.{judgeSample}
+use Rattle.wvtt.specs.Sound.{AllSound}
 use Rattle.wvtt_cues.specs.Cues.{sampleCues}
 use Rattle.wvtt_write.specs.Written.{sampleBytes, cuesBytes}
-use Rattle.wvtt.specs.Sound.{AllSound}
 use Rattle.wvtt_write.proofs.ReadBack.{sample-fine, sample-held}
-use Rattle.track.specs.Track.{rowCount, durationOf, sizeOf, offsetOf, bytesOf, sampleOf, trackOf, judgeTrack, Readable}
-use Rattle.track.proofs.Laws.{bytes-at, readable-fine}
+use Rattle.table.specs.Table.{rowCount, durationOf, bytesOf, Laid}
+use Rattle.table.specs.Parts.{Part, tableOf, contentOf}
+use Rattle.table.proofs.Parts.{Short, row-count, duration-is, bytes-are, written-laid}
+use Rattle.track.specs.Track.{sampleOf, trackOf, judgeTrack, Readable}
+use Rattle.track.proofs.Laws.{readable-fine}
 use Rattle.cuts.specs.Cuts.{orEmpty}
 use Rattle.pack.specs.Packing.{rowBytes, tableBytes, samplesBytes}
-use Rattle.pack.proofs.Laws.{table-append, samples-append, length-table, sample-length}
+use Rattle.pack.proofs.Laws.{sample-length}
 
 -- a sample that can be written: duration and size have 4 bytes, and its cues are sound
 pub record Writable (s : Sample) : Type 0 where
@@ -39,95 +38,72 @@ some-size : (n : ℕ) → 0 < orEmpty n
 some-size zero = omega arith
 some-size (suc n) = omega arith
 
--- a row among others
-table-at : (p q : List Sample) (s : Sample) → tableBytes (p ++ s ∷ q) ≡ tableBytes p ++ (bytes 4 (s .duration) ++ (bytes 4 (length (sampleBytes (s .held))) ++ tableBytes q))
-unfolding tableBytes rowBytes
-table-at p q s =
-    table-append p (s ∷ q)
-    ∙ ap (λ (l : List ℕ). tableBytes p ++ l) (append-assoc (bytes 4 (s .duration)) (bytes 4 (length (sampleBytes (s .held)))) (tableBytes q))
+-- a sample by its duration and bytes
+abbrev partOf : Sample → Part
+partOf s = record { duration = s .duration; content = sampleBytes (s .held) }
 
-duration-among : (p q : List Sample) (s : Sample) → s .duration < 4294967296 → durationOf (tableBytes (p ++ s ∷ q)) (length p) ≡ s .duration
-unfolding durationOf
-duration-among p q s h =
-    let k : s .duration < 256 ^ 4 = omega arith in
-    ap₂ (be 4) (table-at p q s) (sym (length-table p))
-    ∙ be-written 4 (s .duration) (tableBytes p) (bytes 4 (length (sampleBytes (s .held))) ++ tableBytes q) k
+table-is : (l : List Sample) → tableOf (map partOf l) ≡ tableBytes l
+unfolding tableOf tableBytes rowBytes
+table-is [] = refl
+table-is (s ∷ l) = rw (table-is l)
 
-size-among : (p q : List Sample) (s : Sample) → length (sampleBytes (s .held)) < 4294967296 → sizeOf (tableBytes (p ++ s ∷ q)) (length p) ≡ length (sampleBytes (s .held))
-unfolding sizeOf
-size-among p q s h =
-    let k : length (sampleBytes (s .held)) < 256 ^ 4 = omega arith in
-    let l : length p * 8 + 4 ≡ length (tableBytes p ++ bytes 4 (s .duration)) = rw (length-append, length-bytes) (omega (arith, length-table p)) in
-    ap₂ (be 4) (table-at p q s ∙ sym (append-assoc (tableBytes p) (bytes 4 (s .duration)) (bytes 4 (length (sampleBytes (s .held))) ++ tableBytes q))) l
-    ∙ be-written 4 (length (sampleBytes (s .held))) (tableBytes p ++ bytes 4 (s .duration)) (tableBytes q) k
+samples-are : (l : List Sample) → contentOf (map partOf l) ≡ samplesBytes l
+unfolding contentOf samplesBytes
+samples-are [] = refl
+samples-are (s ∷ l) = rw (samples-are l)
 
 module _ (l : List Sample) (ok : (s : Sample) → List·Memᴰ s l → Writable s) where
   at : (i : ℕ) → i < length l → Writable (getD l i blank)
   at i h = ok (getD l i blank) (index-mem l i blank h)
 
-  row-count : rowCount (tableBytes l) ≡ length l
-  unfolding rowCount
-  row-count = omega (arith, length-table l)
+  part-at : (i : ℕ) → getD (map partOf l) i (partOf blank) ≡ partOf (getD l i blank)
+  part-at i = List·getD-map partOf l i blank
 
-  duration-is : (i : ℕ) → i < length l → durationOf (tableBytes l) i ≡ (getD l i blank) .duration
-  duration-is i h =
-      ap₂ (λ (x : List Sample) (k : ℕ). durationOf (tableBytes x) k) (split-at l i blank h) (sym (length-take-le i l (omega arith)))
-      ∙ duration-among (take i l) (drop (suc i) l) (getD l i blank) (at i h .short)
+  short : (i : ℕ) → i < length (map partOf l) → Short (getD (map partOf l) i (partOf blank))
+  short i h = let w = at i (omega (arith, length-map l partOf)) in rw (part-at i) (w .short, w .small)
 
-  size-is : (i : ℕ) → i < length l → sizeOf (tableBytes l) i ≡ length (sampleBytes ((getD l i blank) .held))
-  size-is i h =
-      ap₂ (λ (x : List Sample) (k : ℕ). sizeOf (tableBytes x) k) (split-at l i blank h) (sym (length-take-le i l (omega arith)))
-      ∙ size-among (take i l) (drop (suc i) l) (getD l i blank) (at i h .small)
+  count : rowCount (tableBytes l) ≡ length l
+  count = ap rowCount (sym (table-is l)) ∙ row-count (partOf blank) (map partOf l) short ∙ length-map l partOf
 
-  offset-is : (i : ℕ) → i ≤ length l → offsetOf (tableBytes l) i ≡ length (samplesBytes (take i l))
-  unfolding offsetOf samplesBytes
-  offset-is zero h = refl
-  offset-is (suc i) h =
-      ap₂ _+_ (offset-is i (omega arith)) (size-is i h)
-      ∙ sym (ap (λ (x : List Sample). length (samplesBytes x)) (take-suc l i blank h)
-      ∙ ap length (samples-append (take i l) (getD l i blank ∷ []))
-      ∙ length-append (samplesBytes (take i l)) (sampleBytes ((getD l i blank) .held) ++ [])
-      ∙ ap (λ (x : List ℕ). length (samplesBytes (take i l)) + length x) (append-nil (sampleBytes ((getD l i blank) .held))))
+  duration : (i : ℕ) → i < length l → durationOf (tableBytes l) i ≡ (getD l i blank) .duration
+  duration i h =
+      ap (λ (x : List ℕ). durationOf x i) (sym (table-is l))
+      ∙ duration-is (partOf blank) (map partOf l) short i (omega (arith, length-map l partOf))
+      ∙ ap (λ (p : Part). p .duration) (part-at i)
 
-  part-of : (p x q : List ℕ) → part (p ++ (x ++ q)) (length p) (length p + length x) ≡ x
-  unfolding part
-  part-of p x q =
-      let e : length p + length x - length p ≡ length x = omega arith in
-      rw e (ap (take (length x)) (drop-at p (x ++ q) (length p) refl) ∙ take-at x q (length x) refl)
-
-  bytes-is : (i : ℕ) → i < length l → bytesOf (tableBytes l) (samplesBytes l) i ≡ sampleBytes ((getD l i blank) .held)
-  unfolding samplesBytes
-  bytes-is i h =
-      bytes-at (tableBytes l) (samplesBytes l) i (length (samplesBytes (take i l))) (length (sampleBytes ((getD l i blank) .held))) (sym (offset-is i (omega arith))) (sym (size-is i h))
-      ∙ ap (λ (x : List ℕ). part x (length (samplesBytes (take i l))) (length (samplesBytes (take i l)) + length (sampleBytes ((getD l i blank) .held))))
-      (ap samplesBytes (split-at l i blank h) ∙ samples-append (take i l) (getD l i blank ∷ drop (suc i) l))
-      ∙ part-of (samplesBytes (take i l)) (sampleBytes ((getD l i blank) .held)) (samplesBytes (drop (suc i) l))
+  bytes : (i : ℕ) → i < length l → bytesOf (tableBytes l) (samplesBytes l) i ≡ sampleBytes ((getD l i blank) .held)
+  bytes i h =
+      ap₂ (λ (x y : List ℕ). bytesOf x y i) (sym (table-is l)) (sym (samples-are l))
+      ∙ bytes-are (partOf blank) (map partOf l) short i (omega (arith, length-map l partOf))
+      ∙ ap (λ (p : Part). p .content) (part-at i)
 
   -- the samples come back
   pub comes-back : trackOf (tableBytes l) (samplesBytes l) ≡ l
   unfolding trackOf sampleOf
   comes-back =
-      ap (listed (sampleOf (tableBytes l) (samplesBytes l))) row-count
+      ap (listed (sampleOf (tableBytes l) (samplesBytes l))) count
       ∙ ext-getD blank (listed (sampleOf (tableBytes l) (samplesBytes l)) (length l)) l (length-listed (sampleOf (tableBytes l) (samplesBytes l)) (length l))
       (λ i h. one i (omega (arith, length-listed (sampleOf (tableBytes l) (samplesBytes l)) (length l))))
     where
       one : (i : ℕ) → i < length l → getD (listed (sampleOf (tableBytes l) (samplesBytes l)) (length l)) i blank ≡ getD l i blank
       one i h =
           listed-at (sampleOf (tableBytes l) (samplesBytes l)) (length l) i blank h
-          ∙ same-sample (sampleOf (tableBytes l) (samplesBytes l) i) (getD l i blank) (duration-is i h) (ap sampleCues (bytes-is i h) ∙ sample-held ((getD l i blank) .held) (at i h .sound))
+          ∙ same-sample (sampleOf (tableBytes l) (samplesBytes l) i) (getD l i blank) (duration i h) (ap sampleCues (bytes i h) ∙ sample-held ((getD l i blank) .held) (at i h .sound))
+
+  laid : length l ≤ 65536 → Laid (tableOf (map partOf l)) (contentOf (map partOf l))
+  laid few =
+      written-laid (partOf blank) (map partOf l) short (omega (arith, length-map l partOf))
+      (λ i h. rw (part-at i) (omega (arith, sample-length ((getD l i blank) .held), some-size (length (cuesBytes ((getD l i blank) .held))))))
 
   -- demand 3's readable track, with no fault
   pub written-readable : length l ≤ 65536 → Readable (tableBytes l) (samplesBytes l)
   written-readable few =
       record {
-        whole = omega (arith, length-table l);
-        count = omega (arith, row-count);
-        sized = λ i h. let k : i < length l = omega (arith, row-count) in omega (arith, size-is i k, sample-length ((getD l i blank) .held), some-size (length (cuesBytes ((getD l i blank) .held))));
-        used = ap (offsetOf (tableBytes l)) row-count ∙ offset-is (length l) (le-refl (length l)) ∙ ap (λ (x : List Sample). length (samplesBytes x)) (take-all (length l) l (le-refl (length l)));
-        reads = λ i h. let k : i < length l = omega (arith, row-count) in ap judgeSample (bytes-is i k) ∙ sample-fine ((getD l i blank) .held) (at i k .sound);
+        laid = subst (λ (x : List ℕ). Laid x (samplesBytes l)) (table-is l) (subst (λ (y : List ℕ). Laid (tableOf (map partOf l)) y) (samples-are l) (laid few));
+        reads = λ i h. let k : i < length l = omega (arith, count) in ap judgeSample (bytes i k) ∙ sample-fine ((getD l i blank) .held) (at i k .sound);
       }
 
   pub written-fine : length l ≤ 65536 → judgeTrack (tableBytes l) (samplesBytes l) ≡ Fine
   written-fine few =
       readable-fine (tableBytes l) (samplesBytes l) (written-readable few)
-      (λ i h. let k : i < length l = omega (arith, row-count) in omega (arith, duration-is i k, at i k .lasts))
+      (λ i h. let k : i < length l = omega (arith, count) in omega (arith, duration i k, at i k .lasts))

@@ -5,12 +5,12 @@ use cuts::end_tick;
 use cuts::measure;
 use cuts::sample_size;
 use cuts::stretch_from;
-use fields::put32;
 use records::identifier_length;
 use records::payload_length;
 use records::settings_length;
 use records::source_id;
 use records::text_offset;
+use table::put_row;
 use times::tick_of;
 use verdict::Refusal;
 use verdict::Verdict;
@@ -18,13 +18,12 @@ use verdict::fault_at;
 use wvtt_write::put_cue;
 use wvtt_write::put_empty;
 ghost use mathlib.Core.Path.{_≡_};
-ghost use mathlib.Core.List.{[], _++_};
+ghost use mathlib.Core.List.{[]};
 ghost use Prim.Native.Nat.{_+_, _*_, _≤_, _<_};
 ghost use lib.Dec.{ltb};
 ghost use lib.ListN.{length};
 ghost use Rattle.base.specs.Choice.{pick, keep};
 ghost use Rattle.base.specs.Over.{over, wrote};
-ghost use Rattle.fields.specs.BigEndian.{bytes};
 ghost use Rattle.wvtt_write.specs.Written.{cuesBytes, sampleBytes};
 ghost use Rattle.records.specs.Records.{textsEnd};
 ghost use Rattle.cues.specs.List.{bodyOf, Sound};
@@ -116,15 +115,6 @@ fn put_sample(
         return put_empty(&mut *out, at);
     }
     put_cues(&mut *out, at, scale, records, pool, n, s.first, s.last, b)
-}
-
-// Record i of the table.
-fn put_row(table: &mut [u8], i: usize, duration: u32, size: u32)
-    requires { ⌜ i * 8 + 8 ≤ length (now table) ⌝ }
-    ensures { λ _. ⌜ now (table .exit) ≡ wrote (now (table .entry)) (i * 8) (bytes 4 duration ++ bytes 4 size) ⌝ }
-{
-    put32(&mut *table, i * 8, duration);
-    put32(&mut *table, i * 8 + 4, size);
 }
 
 // The track, where there is room for it.

@@ -12,7 +12,7 @@ use Rattle.fields.proofs.BigEndian.{length-bytes}
 use Rattle.boxes.specs.Boxes.{part}
 use Rattle.timeline.specs.Cues.{Cue}
 use Rattle.timeline.specs.Unpacking.{noCue}
-use Rattle.records_write.specs.Records.{recordBytes, recordOf, textsOf, poolTo, recordsTo}
+use Rattle.records_write.specs.Records.{recordBytes, recordOf, textsOf, poolTo, recordsTo, poolOf}
 
 -- ---- sizes
 
@@ -28,6 +28,18 @@ pub length-records : (scale : ℕ) (cs : List Cue) (k : ℕ) → length (records
 unfolding recordsTo
 length-records scale cs zero = refl
 length-records scale cs (suc k) = rw (length-append, length-record) (omega (arith, length-records scale cs k))
+
+-- the pool grows with its cues
+pool-grows : (cs : List Cue) (k d : ℕ) → length (poolTo cs k) ≤ length (poolTo cs (k + d))
+unfolding poolTo
+pool-grows cs k zero = let e : k + 0 ≡ k = omega arith in rw e (omega arith)
+pool-grows cs k (suc d) =
+    let e : k + suc d ≡ suc (k + d) = omega arith in
+    rw e (omega (arith, pool-grows cs k d, length-append (poolTo cs (k + d)) (textsOf (getD cs (k + d) noCue .body))))
+
+pub pool-most : (cs : List Cue) (k : ℕ) → k ≤ length cs → length (poolTo cs k) ≤ length (poolOf cs)
+unfolding poolOf
+pool-most cs k h = let e : k + (length cs - k) ≡ length cs = omega arith in omega (arith, pool-grows cs k (length cs - k), ap (λ (n : ℕ). length (poolTo cs n)) e)
 
 -- ---- stores, one behind the other
 

@@ -1,7 +1,7 @@
 -- Laws of ticks and milliseconds.
 use Prim.Native.Nat.{ℕ, zero, suc, _+_, _*_, _/_, _%_, _<_, _≤_}
 use mathlib.Core.Path.{_≡_, refl, ap}
-use mathlib.Core.Bool.{true}
+use mathlib.Core.Bool.{true, false}
 use native.Mathlib.Omega.{arith}
 use native.Mathlib.Nat.{div-add-mod', mod-lt, mul-le-mul-right, le-refl}
 use lib.Dec.{leb, eqb}
@@ -120,3 +120,7 @@ unfolding timelineAllowed scaleAllowed
 limits-timeline scale T l =
     rw (limits-within 1 1000000 scale (l .some-scale) (l .scale-most), limits-within 1 359999999 T (l .some-time) (l .time-most))
     (limits-within 1 4294967295 (tick scale T) (l .some-tick) (l .tick-most))
+
+-- a time above the largest is no timeline
+pub ms-above : (scale m : ℕ) → 359999999 < m → timelineAllowed scale m ≡ false
+ms-above scale m h = by-test (timelineAllowed scale m) (λ e. absurd (omega (arith, h, timeline-limits scale m e .time-most))) (λ e. e)

@@ -48,3 +48,15 @@ pub fn timeline_allowed(scale: u32, t: u32) -> bool
     }
     is_within(1, 4294967295, tick_of(scale, t))
 }
+
+// T, from the sum of the durations, is allowed.
+pub fn total_allowed(scale: u32, total: usize) -> bool
+    requires { ⌜ (0 < scale) × (total < 281474976710656) ⌝ }
+    ensures { λ r. ⌜ r ≡ timelineAllowed scale (back scale total) ⌝ }
+{
+    let m = ms_of(scale, total as u64);
+    if 359999999 < m {
+        return false;
+    }
+    timeline_allowed(scale, m as u32)
+}

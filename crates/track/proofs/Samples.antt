@@ -7,7 +7,8 @@ use lib.ListN.{length}
 use Rattle.verdict.specs.declared.Verdict.the-variants.{Fine}
 use Rattle.timeline.specs.Tracks.{Sample, Positive}
 use Rattle.timeline.proofs.Listing.{length-listed, mem-listed, listed-mem}
-use Rattle.track.specs.Track.{rowCount, durationOf, sampleOf, trackOf, judgeTrack}
+use Rattle.table.specs.Table.{rowCount, durationOf}
+use Rattle.track.specs.Track.{sampleOf, trackOf, judgeTrack}
 use Rattle.track.proofs.Laws.{fine-readable}
 
 module _ (table samples : List ℕ) where

@@ -171,7 +171,7 @@ fn has_mark(text: &[u8]) -> bool
 }
 
 // The text of a sample.
-fn find_text(s: &[u8]) -> Text
+pub fn find_text(s: &[u8]) -> Text
     requires { ⌜ textEnd (now s) ≤ length (now s) ⌝ }
     ensures { λ r. ⌜ r ≡ textOf (now (s .entry)) ⌝ }
 {
@@ -191,7 +191,7 @@ fn find_text(s: &[u8]) -> Text
 }
 
 // The styles of a sample without fault.
-fn find_styles(e: &[u8], s: &[u8], characters: usize) -> Styles
+pub fn find_styles(e: &[u8], s: &[u8], characters: usize) -> Styles
     requires { ⌜ readSample (now e) (now s) ≡ Reading.Good characters ⌝ }
     ensures { λ r. ⌜ r ≡ stylesIn (now (s .entry)) (stylesOf (now (s .entry))) ⌝ }
 {

@@ -85,9 +85,9 @@ module _ (e s : List ℕ) (n b : ℕ) (good : readSample e s ≡ Good n) (found 
   unfolding styleAt
   of-style j i l u h z = answered j l ∙ ap Found (sym (style-found e s b j i u h z))
 
-  of-none : (j : ℕ) → j < n → NoneBefore s b j (be 2 s b) → styleOf e s j ≡ Found (defaultStyle e)
+  of-none : (j : ℕ) → j < n → NoneBefore s b j (be 2 s b) → (styleOf e s j ≡ Found (defaultStyle e)) × NoneBefore s b j (be 2 s b)
   unfolding defaultStyle
-  of-none j l z = answered j l ∙ ap Found (sym (style-none e s b j z))
+  of-none j l z = (answered j l ∙ ap Found (sym (style-none e s b j z)), z)
 
   module _ (left i k : ℕ) (counted-so : i + suc left ≡ be 2 s b) (over-so : (j : ℕ) → j < i → lasts s k (styleAt b j) ≡ false) (t : lasts s k (styleAt b i) ≡ true) where
     -- a style that has a character from k on, and has begun: the run is of that style

@@ -27,13 +27,14 @@ abbrev pub WalkBegins : Type 0
 WalkBegins = (s : List ℕ) (b : ℕ) → Stands s b (be 2 s b) (b + 2) 0
 
 -- what a run from k to x says of a text of n characters: each of its characters has the run's style, as `styleOf` answers it; behind it the walk goes on. A run of
--- a style ends where that style does. One of the default style ends at the text's end, or where a style holds the next character, so no longer one could be
+-- a style ends where that style does. One of the default style has characters that no style holds, and ends at the text's end, or where a style holds the next
+-- character, so no longer one could be
 abbrev pub RunMeans : List ℕ → List ℕ → ℕ → ℕ → ℕ → Run → Type 0
 RunMeans e s n b k (Styled x t left q) =
     (k < x) × (x ≤ n) × ((j : ℕ) → k ≤ j → j < x → styleOf e s j ≡ Found t) × Stands s b left q x
     × (i : ℕ) × (i < be 2 s b) × (holds s b k i ≡ true) × (x ≡ be 2 s (styleAt b i + 2))
 RunMeans e s n b k (Plain x left q) =
-    (k < x) × (x ≤ n) × ((j : ℕ) → k ≤ j → j < x → styleOf e s j ≡ Found (defaultStyle e))
+    (k < x) × (x ≤ n) × ((j : ℕ) → k ≤ j → j < x → (styleOf e s j ≡ Found (defaultStyle e)) × ((i : ℕ) → i < be 2 s b → holds s b j i ≡ false))
     × ((x ≡ n) ⊎ (Stands s b left q x × (i : ℕ) × (i < be 2 s b) × (holds s b x i ≡ true)))
 RunMeans e s n b k End = ⊥
 

@@ -26,7 +26,7 @@ use Rattle.tx3g_fonts.specs.Fonts.{hasFont}
 use Rattle.tx3g_entry.specs.Entry.{nothingMore, fontsOf, judgeEntry}
 use Rattle.tx3g_sample.specs.declared.Reading.the-variants.{Good}
 use Rattle.tx3g_sample.specs.declared.Text.the-variants.{Whole, Bad as BadText}
-use Rattle.tx3g_sample.specs.Sample.{textEnd, counted, countedAt, charactersIn, judgeText, inSample, modifiersOf, fontsIn, judgeModifiers, judgeSample, answerOf, readSample}
+use Rattle.tx3g_sample.specs.Sample.{textEnd, counted, countedAt, charactersIn, judgeText, inSample, modifiersOf, fontsIn, judgeModifiers, judgeSample, answerOf, readSample, verdictOf}
 use Rattle.tx3g_sample.specs.Terms.{textRead}
 
 -- the text past the bytes, a text that is bad, and one that is not
@@ -124,3 +124,8 @@ records-fine e c s k b h m q =
     let u = both-fine (both (single k) (among k (j .kinds)) gives 3 at j .place) (pick (known k) (judgeBody (fontsIn e (fontsOf e)) c s (j .place) k b (j .next)) Fine) (j .fine) .1 in
     let v : (filled (j .place) (contentEnd s k b) (j .next) then judgeRecords (fontsIn e (fontsOf e)) c s (j .place) k b) ≡ Fine = rw h at u in
     (j .place, both-fine (filled (j .place) (contentEnd s k b) (j .next)) (judgeRecords (fontsIn e (fontsOf e)) c s (j .place) k b) v .1)
+
+-- the verdict of a reading beside an entry without fault is the sample's
+pub verdict-beside : (v : Verdict) (n : ℕ) → verdictOf (answerOf Fine v n) ≡ v
+verdict-beside Fine n = refl
+verdict-beside (Refused r) n = refl

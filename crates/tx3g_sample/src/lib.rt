@@ -180,3 +180,11 @@ pub fn verdict_of(r: Reading) -> Verdict
         Reading::BadSample(why) => Verdict::Refused(why),
     }
 }
+
+// The verdict on a sample beside an entry without fault: for a track, whose entry is judged once.
+pub fn judge_beside(e: &[u8], s: &[u8]) -> Verdict
+    requires { ⌜ judgeEntry (now e) ≡ Fine ⌝ }
+    ensures { λ r. ⌜ r ≡ judgeSample (now (e .entry)) (now (s .entry)) ⌝ }
+{
+    verdict_of(read_beside(e, s))
+}

@@ -9,7 +9,7 @@ use lib.Dec.{leb, ltb}
 use lib.ListN.{length, getD}
 use borrow.Author.Tests.{ltb-false, not-false, lt-ltb, le-ltb}
 use Rattle.base.specs.Choice.{one-of}
-use Rattle.base.proofs.Choice.{by-test, either}
+use Rattle.base.proofs.Choice.{either}
 use Rattle.verdict.specs.declared.Refusal.{Refusal}
 use Rattle.verdict.specs.declared.Verdict.{Verdict}
 use Rattle.verdict.specs.declared.Verdict.the-variants.{Fine, Refused}
@@ -25,7 +25,8 @@ use Rattle.timeline.proofs.Indexed.{index-mem}
 use Rattle.timeline.proofs.Joined.{unpack-right}
 use Rattle.wvtt.specs.Sound.{Sound, AllSound}
 use Rattle.wvtt_cues.proofs.Sound.{sample-sound}
-use Rattle.track.specs.Track.{rowCount, sampleOf, trackOf, judgeTrack}
+use Rattle.table.specs.Table.{rowCount}
+use Rattle.track.specs.Track.{sampleOf, trackOf, judgeTrack}
 use Rattle.track.proofs.Laws.{fine-readable}
 use Rattle.track.proofs.Samples.{track-positive}
 use Rattle.rows.specs.declared.Row.{Row}
@@ -104,9 +105,6 @@ module _ (table samples : List ℕ) (fine : judgeTrack table samples ≡ Fine) w
       row-ready samples (rowAt tab i) (g .placed i h) y w (omega (arith, start, end, lasts, ends)) (omega (arith, end, ends))
 
 -- ---- the last judgements
-
-pub ms-above : (scale m : ℕ) → 359999999 < m → timelineAllowed scale m ≡ false
-ms-above scale m h = by-test (timelineAllowed scale m) (λ e. absurd (omega (arith, h, timeline-limits scale m e .time-most))) (λ e. e)
 
 each-same : (f g : ℕ → Verdict) (n : ℕ) → ((i : ℕ) → i < n → f i ≡ g i) → each f n ≡ each g n
 unfolding each

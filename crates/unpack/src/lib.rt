@@ -4,7 +4,7 @@ use gather::gather;
 use rows::row_at;
 use times::ms_of;
 use times::scale_allowed;
-use times::timeline_allowed;
+use times::total_allowed;
 use track::judge_track;
 use unpack_write::pool_size;
 use unpack_write::put_rows;
@@ -16,7 +16,7 @@ ghost use mathlib.Core.Path.{_≡_};
 ghost use Prim.Native.Nat.{ℕ, _*_, _≤_, _<_};
 ghost use lib.ListN.{length};
 ghost use Rattle.verdict.specs.Judgement.{each};
-ghost use Rattle.times.specs.Times.{back, timelineAllowed};
+ghost use Rattle.times.specs.Times.{back};
 ghost use Rattle.rows.specs.Table.{rowAt, known};
 ghost use Rattle.records_write.specs.Records.{recordsOf, poolOf};
 ghost use Rattle.unpack.specs.Unpacking.{badTimes, trackCues, unpackRoom, roomed, unpackOf, outOf};
@@ -64,18 +64,6 @@ fn judge_times(scale: u32, tab: &[usize], n: usize) -> Verdict
         i += 1;
     }
     Verdict::Fine
-}
-
-// T, from the sum of the durations, is allowed.
-fn total_allowed(scale: u32, total: usize) -> bool
-    requires { ⌜ (0 < scale) × (total < 281474976710656) ⌝ }
-    ensures { λ r. ⌜ r ≡ timelineAllowed scale (back scale total) ⌝ }
-{
-    let m = ms_of(scale, total as u64);
-    if 359999999 < m {
-        return false;
-    }
-    timeline_allowed(scale, m as u32)
 }
 
 // Times and T.

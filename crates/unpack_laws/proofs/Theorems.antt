@@ -6,7 +6,7 @@ use mathlib.Core.Bool.{Bool, true, false, not}
 use mathlib.Core.Option.{some}
 use mathlib.Core.List.{List, [], _∷_, map}
 use native.Mathlib.Omega.{arith}
-use native.Mathlib.Nat.{mul-le-mul-right, not-suc-le-zero, le-of-suc-le-suc}
+use native.Mathlib.Nat.{not-suc-le-zero, le-of-suc-le-suc}
 use lib.Dec.{leb, ltb}
 use lib.ListN.{length, getD, length-take}
 use borrow.Author.Tests.{ltb-false, leb-false, le-ltb, lt-leb, not-false}
@@ -16,7 +16,6 @@ use Rattle.verdict.specs.declared.Verdict.{Verdict}
 use Rattle.verdict.specs.declared.Verdict.the-variants.{Fine, Refused}
 use Rattle.verdict.specs.Judgement.{_gives_at_, each}
 use Rattle.verdict.proofs.Judgement.{both-fine, not-given, each-fine, each-all}
-use Rattle.text.specs.Rules.{identifierText, payloadText}
 use Rattle.times.specs.Times.{tick, back, scaleAllowed, timelineAllowed, Limits}
 use Rattle.times.proofs.Laws.{timeline-limits, limits-timeline, scale-limits, tick-back, back-tick, back-mono}
 use Rattle.timeline.specs.Cues.{Cue, Pairs}
@@ -34,15 +33,16 @@ use Rattle.wvtt.specs.Sound.{Sound as SoundBody}
 use Rattle.track.specs.Track.{judgeTrack, trackOf}
 use Rattle.records.specs.Records.{count, sourceId, startMs, endMs, textOffset, settingsOffset, payloadOffset, identifierLength, settingsLength, payloadLength, piece, identifierOf, settingsOf, payloadOf}
 use Rattle.cues.specs.Judgement.{judgeList}
-use Rattle.cues.specs.List.{bodyOf, cueOf, cuesOf, SoundRecord, Sound}
-use Rattle.cues.proofs.Sound.{fine-sound, sound-fine, fine-proper, fine-few, cues-named, length-cues}
+use Rattle.cues.specs.List.{bodyOf, cueOf, cuesOf, Sound}
+use Rattle.cues.proofs.Sound.{fine-sound, fine-proper, fine-few, cues-named, length-cues}
 use Rattle.records_write.specs.Records.{idOf, recordsOf, poolOf}
 use Rattle.unpack.specs.declared.Unpacked.{Unpacked}
 use Rattle.unpack.specs.declared.Unpacked.the-variants.{Done, Refused as Stopped}
 use Rattle.unpack.specs.Unpacking.{stopsAt, listIn, trackCues, trackMs, badTimes, judgeTimes, judgeEnd, judgeUnpack, answerBy, doneWith, unpackRoom, roomed, unpackOf}
 use Rattle.track.proofs.Samples.{track-positive}
 use Rattle.unpack.proofs.Laws.{list-sound, list-done, cues-done, room-fits, room-done}
-use Rattle.unpack_laws.proofs.Reading.{Fits, length-recs, count-recs, id-read, start-read, end-read, identifier-read, settings-read, payload-read, reserved-read, identifier-is, settings-is, payload-is, texts-inside, cues-are}
+use Rattle.unpack_laws.proofs.Written.{tick-less, AllRight, written-fine}
+use Rattle.unpack_laws.proofs.Reading.{Fits, length-recs, id-read, start-read, end-read, identifier-is, settings-is, payload-is, cues-are}
 
 -- ---- a success
 
@@ -124,11 +124,6 @@ pairs-at R d (c ∷ l) h i zero a b = absurd (not-suc-le-zero a)
 pairs-at R d (c ∷ l) h zero (suc j) a b = h .0 (getD l j d) (index-mem l j d (le-of-suc-le-suc b))
 pairs-at R d (c ∷ l) h (suc i) (suc j) a b = pairs-at R d l (h .1) i j (le-of-suc-le-suc a) (le-of-suc-le-suc b)
 
--- at a scale of 1,000 or more different times have different ticks
-tick-less : (scale m n : ℕ) → 1000 ≤ scale → m < n → tick scale m < tick scale n
-unfolding tick
-tick-less scale m n h k = omega (arith, mul-le-mul-right scale k)
-
 module _ (scale : ℕ) (table samples : List ℕ) (a b n p t : ℕ) (done-so : unpackOf scale table samples a b ≡ Done n p t) where
   pub won : Success scale table samples n p t
   won = success scale table samples a b n p t done-so
@@ -160,57 +155,37 @@ module _ (scale : ℕ) (table samples : List ℕ) (a b n p t : ℕ) (done-so : u
       (λ h. omega (arith, tick-back scale (c .start) (won .scaled .0) h, tick-back scale (c .end) (won .scaled .0) h))
       (λ h. tick-less scale (back scale (c .start)) (back scale (c .end)) (omega arith) (w .lasts))
 
-  record-so : (i : ℕ) → i < length (trackCues table samples) → SoundRecord scale t (recordsOf scale (trackCues table samples)) (poolOf (trackCues table samples)) i
-  record-so i h =
+  all-right : AllRight scale scale t (trackCues table samples)
+  all-right =
       let cs = trackCues table samples in
-      let c = getD cs i noCue in
-      let few = listed-so .few in
-      let m = index-mem cs i noCue h in
-      let id = fits i h .named in
-      let y = fits i h .sound in
-      let w = won .times i h in
-      let x = start-read scale cs few fits i h in
-      let z = end-read scale cs few fits i h in
       record {
-        id-below = omega (arith, id-read scale cs few fits i h, ap idOf (id .1), y .id-below (id .0) (id .1));
-        zeros = reserved-read scale cs few fits i h;
-        identifier-most = omega (arith, identifier-read scale cs few fits i h, y .identifier-most);
-        settings-most = omega (arith, settings-read scale cs few fits i h, y .settings-most);
-        payload-most = omega (arith, payload-read scale cs few fits i h, y .payload-most);
-        inside = texts-inside scale cs few fits i h;
-        identifier-right = ap identifierText (identifier-is scale cs few fits i h) ∙ y .identifier-right;
-        settings-right = ap identifierText (settings-is scale cs few fits i h) ∙ y .settings-right;
-        payload-right = ap payloadText (payload-is scale cs few fits i h) ∙ y .payload-right;
-        lasts = omega (arith, x, z, w .lasts);
-        ends = omega (arith, z, won .timeline, back-mono scale (c .end) (total (trackOf table samples)) (won .scaled .0) (listed-so .proper .ends c m));
-        ticks = omega (arith, ap (tick scale) x, ap (tick scale) z, ticks-so c w (listed-so .proper .lasts c m));
-        follows = λ j e.
-            let k : j < length cs = omega arith in
-            omega (arith, x, start-read scale cs few fits j k, back-mono scale (getD cs j noCue .start) (c .start) (won .scaled .0) (pairs-at (λ u v. u .start ≤ v .start) noCue cs (listed-so .proper .ordered) j i (omega arith) h));
+        limits = won .limits;
+        few = listed-so .few;
+        right = λ i h.
+            let c = getD cs i noCue in
+            let m = index-mem cs i noCue h in
+            let w = won .times i h in
+            record {
+              fits = fits i h;
+              lasts = w .lasts;
+              ends = omega (arith, won .timeline, back-mono scale (c .end) (total (trackOf table samples)) (won .scaled .0) (listed-so .proper .ends c m));
+              ticks = ticks-so c w (listed-so .proper .lasts c m);
+            };
+        follows = λ i h. back-mono scale (getD cs i noCue .start) (getD cs (suc i) noCue .start) (won .scaled .0) (pairs-at (λ u v. u .start ≤ v .start) noCue cs (listed-so .proper .ordered) i (suc i) (omega arith) h);
+        distinct = apart;
       }
+    where
+      apart : (j i : ℕ) → j < i → i < length (trackCues table samples) → idOf (getD (trackCues table samples) j noCue .body .id) ≢ idOf (getD (trackCues table samples) i noCue .body .id)
+      apart j i l h e =
+          let k : j < length (trackCues table samples) = omega arith in
+          let u = fits j k .named in
+          let v = fits i h .named in
+          let s : u .0 ≡ v .0 = sym (ap idOf (u .1)) ∙ e ∙ ap idOf (v .1) in
+          pairs-at (λ x y. y .body .id ≢ x .body .id) noCue (trackCues table samples) (listed-so .proper .distinct) j i l h (v .1 ∙ ap some (sym s) ∙ sym (u .1))
 
   -- whatever unpacking answers, packing finds no fault in
   pub unpacked-fine : judgeList scale t (recordsOf scale (trackCues table samples)) (poolOf (trackCues table samples)) ≡ Fine
-  unpacked-fine =
-      let cs = trackCues table samples in
-      let few = listed-so .few in
-      sound-fine scale t (recordsOf scale cs) (poolOf cs) (record {
-        limits = won .limits;
-        whole = omega (arith, length-recs scale cs few fits);
-        few = omega (arith, count-recs scale cs few fits, few);
-        records = λ i h. record-so i (omega (arith, h, count-recs scale cs few fits));
-        distinct = λ j i l h. apart j i l (omega (arith, h, count-recs scale cs few fits));
-      })
-    where
-      apart : (j i : ℕ) → j < i → i < length (trackCues table samples) → sourceId (recordsOf scale (trackCues table samples)) j ≢ sourceId (recordsOf scale (trackCues table samples)) i
-      apart j i l h e =
-          let cs = trackCues table samples in
-          let few = listed-so .few in
-          let k : j < length cs = omega arith in
-          let u = fits j k .named in
-          let v = fits i h .named in
-          let s : u .0 ≡ v .0 = sym (ap idOf (u .1)) ∙ sym (id-read scale cs few fits j k) ∙ e ∙ id-read scale cs few fits i h ∙ ap idOf (v .1) in
-          pairs-at (λ x y. y .body .id ≢ x .body .id) noCue cs (listed-so .proper .distinct) j i l h (v .1 ∙ ap some (sym s) ∙ sym (u .1))
+  unpacked-fine = written-fine scale scale t (trackCues table samples) all-right
 
 -- ---- a packed list comes back
 

@@ -6,16 +6,16 @@ use mathlib.Core.List.{List, [], _∷_}
 use native.Mathlib.Omega.{arith}
 use native.Mathlib.Nat.{zero-add, add-zero, not-suc-le-zero}
 use lib.ListN.{length, getD}
-use Rattle.text.specs.Rules.{identifierText, payloadText}
 use Rattle.times.specs.Times.{tick, back}
 use Rattle.times.proofs.Laws.{back-tick}
 use Rattle.timeline.specs.Cues.{Cue}
 use Rattle.timeline.specs.Unpacking.{noCue}
-use Rattle.records.specs.Records.{count, sourceId, startMs, endMs, identifierLength, settingsLength, payloadLength, identifierOf, settingsOf, payloadOf}
+use Rattle.records.specs.Records.{count, sourceId, startMs, endMs, identifierOf, settingsOf, payloadOf}
 use Rattle.cues.specs.Caption.{Caption, caption, SoundCaption}
-use Rattle.cues.specs.List.{SoundRecord, Sound}
+use Rattle.cues.specs.List.{Sound}
 use Rattle.records_write.specs.Records.{idOf, recordsOf, poolOf}
-use Rattle.unpack_laws.proofs.Reading.{Fits, length-recs, count-recs, id-read, start-read, end-read, identifier-read, settings-read, payload-read, reserved-read, identifier-is, settings-is, payload-is, texts-inside}
+use Rattle.unpack_laws.proofs.Written.{Right, AllRight, written-sound}
+use Rattle.unpack_laws.proofs.Reading.{Fits, length-recs, count-recs, id-read, start-read, end-read, identifier-is, settings-is, payload-is}
 use Rattle.vtt_read.specs.Reading.{cueWith, numberedFrom}
 use Rattle.vtt_laws.proofs.Sound.{Sounds}
 
@@ -53,6 +53,13 @@ cue-fits id before c h s = record {
   start-most = omega (arith, back-tick 1000 (c .start) (omega arith), s .lasts, s .ends);
   end-most = omega (arith, back-tick 1000 (c .end) (omega arith), s .ends);
 }
+
+cue-right : (id before : ℕ) (c : Caption) → id < 1024 → SoundCaption 1000 359999999 before c → Right 1000 1000 359999999 (cueWith id c)
+unfolding cueWith tick
+cue-right id before c h s =
+    let x = back-tick 1000 (c .start) (omega arith) in
+    let y = back-tick 1000 (c .end) (omega arith) in
+    record { fits = cue-fits id before c h s; lasts = omega (arith, s .lasts); ends = omega (arith, s .ends); ticks = omega (arith, s .lasts) }
 
 -- ---- sound captions, by index
 
@@ -122,45 +129,7 @@ module _ (cs : List Caption) (sound : Sounds 0 cs) (few : length cs ≤ 1024) wh
     unfolding cueWith
     payload-at = payload-is 1000 counted counted-few counted-fits i there ∙ ap (λ (x : Cue). x .body .payload) (counted-at i h)
 
-    identifier-long : identifierLength (recordsOf 1000 counted) i ≡ length (getD cs i nothing .identifier)
-    unfolding cueWith
-    identifier-long = identifier-read 1000 counted counted-few counted-fits i there ∙ ap (λ (x : Cue). length (x .body .identifier)) (counted-at i h)
-
-    settings-long : settingsLength (recordsOf 1000 counted) i ≡ length (getD cs i nothing .settings)
-    unfolding cueWith
-    settings-long = settings-read 1000 counted counted-few counted-fits i there ∙ ap (λ (x : Cue). length (x .body .settings)) (counted-at i h)
-
-    payload-long : payloadLength (recordsOf 1000 counted) i ≡ length (getD cs i nothing .payload)
-    unfolding cueWith
-    payload-long = payload-read 1000 counted counted-few counted-fits i there ∙ ap (λ (x : Cue). length (x .body .payload)) (counted-at i h)
-
   -- ---- packing finds no fault in them
-
-  falls-not : (i : ℕ) → i < length cs → (j : ℕ) → i ≡ suc j → startMs (recordsOf 1000 counted) j ≤ startMs (recordsOf 1000 counted) i
-  falls-not i h j e =
-      let k : suc j < length cs = omega arith in
-      let s = sound-at 0 cs sound (suc j) k .follows in
-      rw e (omega (arith, start-at j (omega arith), start-at (suc j) k))
-
-  record-sound : (i : ℕ) → i < length cs → SoundRecord 1000 359999999 (recordsOf 1000 counted) (poolOf counted) i
-  unfolding tick
-  record-sound i h =
-      let s = sound-at 0 cs sound i h in
-      record {
-        id-below = omega (arith, id-at i h, few, h);
-        zeros = reserved-read 1000 counted counted-few counted-fits i (there i h);
-        identifier-most = omega (arith, identifier-long i h, s .identifier-most);
-        settings-most = omega (arith, settings-long i h, s .settings-most);
-        payload-most = omega (arith, payload-long i h, s .payload-most);
-        inside = texts-inside 1000 counted counted-few counted-fits i (there i h);
-        identifier-right = ap identifierText (identifier-at i h) ∙ s .identifier-right;
-        settings-right = ap identifierText (settings-at i h) ∙ s .settings-right;
-        payload-right = ap payloadText (payload-at i h) ∙ s .payload-right;
-        lasts = omega (arith, start-at i h, end-at i h, s .lasts);
-        ends = omega (arith, end-at i h, s .ends);
-        ticks = omega (arith, start-at i h, end-at i h, s .lasts);
-        follows = falls-not i h;
-      }
 
   pub records-many : count (recordsOf 1000 counted) ≡ length cs
   records-many = count-recs 1000 counted counted-few counted-fits ∙ length-from 0 cs
@@ -168,12 +137,21 @@ module _ (cs : List Caption) (sound : Sounds 0 cs) (few : length cs ≤ 1024) wh
   pub records-length : length (recordsOf 1000 counted) ≡ length cs * 24
   records-length = length-recs 1000 counted counted-few counted-fits ∙ ap (λ (n : ℕ). n * 24) (length-from 0 cs)
 
-  pub records-sound : Sound 1000 359999999 (recordsOf 1000 counted) (poolOf counted)
-  unfolding tick
-  records-sound = record {
+  all-right : AllRight 1000 1000 359999999 counted
+  unfolding tick cueWith
+  all-right = record {
     limits = record { some-scale = omega arith; scale-most = omega arith; some-time = omega arith; time-most = omega arith; some-tick = omega arith; tick-most = omega arith };
-    whole = omega (arith, records-length);
-    few = omega (arith, records-many, few);
-    records = λ i h. record-sound i (omega (arith, records-many));
-    distinct = λ j i a b e. omega (arith, id-at j (omega (arith, records-many)), id-at i (omega (arith, records-many)));
+    few = counted-few;
+    right = λ i l. let h : i < length cs = omega (arith, l, length-from 0 cs) in subst⁻¹ (Right 1000 1000 359999999) (counted-at i h) (cue-right i (startOf 0 cs i) (getD cs i nothing) (omega arith) (sound-at 0 cs sound i h));
+    follows = λ i l.
+        let h : suc i < length cs = omega (arith, l, length-from 0 cs) in
+        let k : i < length cs = omega arith in
+        let s = sound-at 0 cs sound (suc i) h .follows in
+        omega (arith, ap (λ (x : Cue). back 1000 (x .start)) (counted-at i k), ap (λ (x : Cue). back 1000 (x .start)) (counted-at (suc i) h), back-tick 1000 (getD cs i nothing .start) (omega arith), back-tick 1000 (getD cs (suc i) nothing .start) (omega arith));
+    distinct = λ j i l h e.
+        let k : i < length cs = omega (arith, h, length-from 0 cs) in
+        omega (arith, e, ap (λ (x : Cue). idOf (x .body .id)) (counted-at j (omega arith)), ap (λ (x : Cue). idOf (x .body .id)) (counted-at i k));
   }
+
+  pub records-sound : Sound 1000 359999999 (recordsOf 1000 counted) (poolOf counted)
+  records-sound = written-sound 1000 1000 359999999 counted all-right

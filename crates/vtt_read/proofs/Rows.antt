@@ -1,17 +1,16 @@
 -- The rows of a file's cues, and what is written from them.
-use Prim.Native.Nat.{ℕ, zero, suc, _+_, _-_, _*_, _<_, _≤_}
+use Prim.Native.Nat.{ℕ, _+_, _*_, _<_, _≤_}
 use mathlib.Core.Path.{_≡_, refl, sym, ap, _∙_, subst⁻¹}
 use mathlib.Core.List.{List, _++_}
 use native.Mathlib.Omega.{arith}
-use lib.ListN.{length, getD, length-append}
+use lib.ListN.{length, getD}
 use Rattle.base.specs.Over.{over, wrote}
 use Rattle.base.proofs.Over.{length-wrote}
 use Rattle.base.proofs.Choice.{either}
 use Rattle.times.proofs.Laws.{back-tick}
-use Rattle.timeline.specs.Cues.{Cue}
 use Rattle.timeline.specs.Unpacking.{noCue}
 use Rattle.records_write.specs.Records.{recordBytes, recordOf, textsOf, poolTo, recordsTo, recordsOf, poolOf}
-use Rattle.records_write.proofs.Laws.{length-records, record-put, texts-put}
+use Rattle.records_write.proofs.Laws.{length-records, pool-most, record-put, texts-put}
 use Rattle.rows.specs.declared.Row.{Row}
 use Rattle.rows.specs.Table.{rowAt, numbersOf}
 use Rattle.rows.proofs.Laws.{row-written, row-kept, length-numbers}
@@ -36,18 +35,6 @@ rows-more s tab after k r t w e =
     })
 
 -- ---- writing
-
--- the pool grows with its cues
-pool-grows : (cs : List Cue) (k d : ℕ) → length (poolTo cs k) ≤ length (poolTo cs (k + d))
-unfolding poolTo
-pool-grows cs k zero = let e : k + 0 ≡ k = omega arith in rw e (omega arith)
-pool-grows cs k (suc d) =
-    let e : k + suc d ≡ suc (k + d) = omega arith in
-    rw e (omega (arith, pool-grows cs k d, length-append (poolTo cs (k + d)) (textsOf (getD cs (k + d) noCue .body))))
-
-pub pool-most : (cs : List Cue) (k : ℕ) → k ≤ length cs → length (poolTo cs k) ≤ length (poolOf cs)
-unfolding poolOf
-pool-most cs k h = let e : k + (length cs - k) ≡ length cs = omega arith in omega (arith, pool-grows cs k (length cs - k), ap (λ (n : ℕ). length (poolTo cs n)) e)
 
 module _ (s : List ℕ) (r : Row) (k size : ℕ) (w : RowAt s r k) (size-is : size ≡ length (poolTo (listOf s) k)) (text : List ℕ) (text-is : text ≡ w .says .payload) where
   this-cue : getD (listOf s) k noCue ≡ cueWith k (w .says)

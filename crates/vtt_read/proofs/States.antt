@@ -17,6 +17,7 @@ use Rattle.verdict.specs.declared.Verdict.{Verdict}
 use Rattle.verdict.specs.declared.Verdict.the-variants.{Fine, Refused}
 use Rattle.verdict.specs.Judgement.{refuse, _gives_at_, _then_}
 use Rattle.verdict.proofs.Judgement.{both-fine, not-given}
+use Rattle.cues.proofs.Capped.{times-early}
 use Rattle.cues.specs.Caption.{Caption, caption, longTexts, badTimes, judgeTexts, judgeContent, judgeCaption}
 use Rattle.timestamps.specs.Timestamps.{capped}
 use Rattle.vtt_lines.specs.Lines.{joined, Block, blocksFrom}
@@ -27,7 +28,7 @@ use Rattle.vtt_blocks.specs.Found.{textIn, blocksAt, filledAt, leftAt, EmptyAt,
 use Rattle.vtt_read.specs.declared.State.{State}
 use Rattle.vtt_read.specs.Reading.{judgeKind, judgeBlocks, cuesIn, judgeFile, fileCues}
 use Rattle.vtt_read.specs.Steps.{movedTo, rowOf, Stands, RowAt}
-use Rattle.vtt_read.proofs.Judging.{found-verdict, found-cues, times-same, times-early, content-capped}
+use Rattle.vtt_read.proofs.Judging.{found-verdict, found-cues, times-same, content-same}
 use Rattle.vtt_read.proofs.Lists.{one-more, rest-is, pool-more}
 
 refused-then : (v w : Verdict) (r : Refusal) → v ≡ Refused r → v then w ≡ Refused r
@@ -170,7 +171,7 @@ module _ (s : List ℕ) (st : State) (d : Stands s st) where
               (ap₂ (λ (a b : ℕ). caption a b (textIn s (st .at) (c .identifier)) (textIn s (c .from) (c .to)) payload) (w .start-is) (w .end-is)
               ∙ ap₂ (λ (x y : List ℕ). caption (capped (w .says .start)) (capped (w .says .end)) x y payload) (w .identifier-is) (w .settings-is)
               ∙ ap (caption (capped (w .says .start)) (capped (w .says .end)) (w .says .identifier) (w .says .settings)) payload-is)
-              ∙ content-capped (st .before) (c .line) (w .says .start) (w .says .end) (w .says .identifier) (w .says .settings) (w .says .payload)
+              ∙ content-same (st .before) (c .line) (w .says .start) (w .says .end) (w .says .identifier) (w .says .settings) (w .says .payload)
 
           pub content-stops : (r : Refusal) → v ≡ Refused r → judgeFile s ≡ Refused r
           content-stops r e = content-is ∙ refused-then _ _ r (sym same-content ∙ e)
@@ -225,5 +226,5 @@ module _ (s : List ℕ) (st : State) (d : Stands s st) where
                 few = few;
                 low = omega (arith, d .small, d .sized);
                 short = (omega (arith, l .0, identifier-long), omega (arith, l .1, settings-long), omega (arith, l .2, n-is));
-                early = times-early (w .says .start) (w .says .end) (times-right (st .before) (w .says) (c .line) fine);
+                early = times-early 1000 (w .says .start) (w .says .end) (times-right (st .before) (w .says) (c .line) fine);
               }

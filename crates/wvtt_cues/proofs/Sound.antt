@@ -16,10 +16,9 @@ use Rattle.verdict.specs.Judgement.{_gives_at_}
 use Rattle.verdict.proofs.Judgement.{both-fine, not-given, text-fine}
 use Rattle.fields.specs.BigEndian.{be}
 use Rattle.text.specs.Rules.{identifierText, payloadText}
+use Rattle.text.proofs.Rules.{empty-line, empty-payload}
 use Rattle.text.specs.Beginnings.{identifierBegun, payloadBegun}
 use Rattle.boxes.specs.Boxes.{Boxes, clean, broken, box, boxesIn, passed, judged, among, part}
-use Rattle.utf8.specs.Utf8.{utf8, judge}
-use Rattle.utf8.specs.Strings.{hasAny, beginsLine, endsLine}
 use Rattle.wvtt.specs.Kinds.{vttc, vsid, iden, sttg, payl, line, single}
 use Rattle.wvtt.specs.Sample.{judgeId, judgeText, judgeBody, inCue, endCue, judgeCue, inSample, endSample, judgeSample}
 use Rattle.wvtt.specs.Sound.{Sound, AllSound}
@@ -69,15 +68,6 @@ id-fine s p b n e q =
     let w = both-fine (ltb (n - b) 4 gives 1 at p) _ e in
     let v = both-fine (ltb 4 (n - b) gives 2 at p) _ (w .1) in
     leb-false 2147483648 (be 4 s b) (not-given (leb 2147483648 (be 4 s b)) 8 p (v .1))
-
--- no bytes are a text under each rule
-empty-line : identifierText [] ≡ true
-unfolding identifierText utf8 judge hasAny
-empty-line = refl
-
-empty-payload : payloadText [] ≡ true
-unfolding payloadText utf8 judge hasAny beginsLine endsLine
-empty-payload = refl
 
 no-text : (s : List ℕ) → textOf s nowhere ≡ []
 unfolding textOf nowhere part

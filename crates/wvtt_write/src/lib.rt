@@ -17,8 +17,8 @@ ghost use Rattle.boxes.specs.Written.{boxBytes, itemBytes};
 ghost use Rattle.wvtt.specs.Kinds.{vsid};
 ghost use Rattle.wvtt_write.specs.Written.{ifAny, textItems, cueBytes, pooled, anySize, textsSize, cueSize, sampleBytes};
 
-// Copies n bytes of `src` from `from` on to `at` in `out`.
-pub fn copy_run(out: &mut [u8], at: usize, src: &[u8], from: usize, n: usize)
+// Copies n bytes, one by one.
+fn copy_bytes(out: &mut [u8], at: usize, src: &[u8], from: usize, n: usize)
     requires { ⌜ (at + n ≤ length (now out)) × (from + n ≤ length (now src)) ⌝ }
     ensures { λ _. ⌜ now (out .exit) ≡ wrote (now (out .entry)) at (part (now (src .entry)) from (from + n)) ⌝ }
 {
@@ -27,6 +27,63 @@ pub fn copy_run(out: &mut [u8], at: usize, src: &[u8], from: usize, n: usize)
         out[at + i] = src[from + i];
         i += 1;
     }
+}
+
+// Copies sixteen bytes. All are read before the first is stored, so that it compiles to one load and one store.
+fn copy16(out: &mut [u8], at: usize, src: &[u8], from: usize)
+    requires { ⌜ (at + 16 ≤ length (now out)) × (from + 16 ≤ length (now src)) ⌝ }
+    ensures { λ _. ⌜ now (out .exit) ≡ wrote (now (out .entry)) at (part (now (src .entry)) from (from + 16)) ⌝ }
+{
+    let a = src[from];
+    let b = src[from + 1];
+    let c = src[from + 2];
+    let d = src[from + 3];
+    let e = src[from + 4];
+    let f = src[from + 5];
+    let g = src[from + 6];
+    let h = src[from + 7];
+    let i = src[from + 8];
+    let j = src[from + 9];
+    let k = src[from + 10];
+    let l = src[from + 11];
+    let m = src[from + 12];
+    let n = src[from + 13];
+    let o = src[from + 14];
+    let p = src[from + 15];
+    out[at] = a;
+    out[at + 1] = b;
+    out[at + 2] = c;
+    out[at + 3] = d;
+    out[at + 4] = e;
+    out[at + 5] = f;
+    out[at + 6] = g;
+    out[at + 7] = h;
+    out[at + 8] = i;
+    out[at + 9] = j;
+    out[at + 10] = k;
+    out[at + 11] = l;
+    out[at + 12] = m;
+    out[at + 13] = n;
+    out[at + 14] = o;
+    out[at + 15] = p;
+}
+
+// Copies n bytes of `src` from `from` on to `at` in `out`, sixteen at a time. The last sixteen may overlap the ones before.
+pub fn copy_run(out: &mut [u8], at: usize, src: &[u8], from: usize, n: usize)
+    requires { ⌜ (at + n ≤ length (now out)) × (from + n ≤ length (now src)) ⌝ }
+    ensures { λ _. ⌜ now (out .exit) ≡ wrote (now (out .entry)) at (part (now (src .entry)) from (from + n)) ⌝ }
+{
+    if n < 16 {
+        copy_bytes(&mut *out, at, src, from, n);
+        return;
+    }
+    let last = n - 16;
+    let mut i = 0;
+    while i < last {
+        copy16(&mut *out, at + i, src, from + i);
+        i += 16;
+    }
+    copy16(&mut *out, at + last, src, from + last);
 }
 
 // The size and the type of a box.

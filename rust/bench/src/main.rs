@@ -1,11 +1,14 @@
 //! The proved library beside the plain Rust version on the same inputs in the same run.
 
 mod classes;
+mod converter;
+mod dropper;
 mod entries;
 mod files;
 mod files_out;
 mod inputs;
 mod lists;
+mod old_tracks;
 mod reader;
 mod texts;
 mod timing;
@@ -40,6 +43,9 @@ fn main() {
     for count in SIZES {
         tx3g::bench(&tx3g::samples(count), &format!("{count} styles"));
         tx3g::bench_boxes(count);
+    }
+    for count in SIZES {
+        old_tracks::bench(count);
     }
     head(" class table ns | from_utf8 ns |");
     texts::bench(&inputs::letters(), "4,095 letters");

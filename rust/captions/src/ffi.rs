@@ -87,6 +87,15 @@ pub struct CaptionsChecked {
 
 #[repr(C)]
 #[derive(Clone, Copy, Debug, PartialEq, Eq)]
+pub struct CaptionsDropped {
+    pub refusal: CaptionsRefusal,
+    pub samples: usize,
+    pub table_bytes: usize,
+    pub sample_bytes: usize,
+}
+
+#[repr(C)]
+#[derive(Clone, Copy, Debug, PartialEq, Eq)]
 pub struct CaptionsVttRead {
     pub refusal: CaptionsRefusal,
     pub cues: usize,
@@ -224,6 +233,25 @@ pub struct CaptionsModifier {
     pub next: usize,
 }
 
+#[repr(C)]
+#[derive(Clone, Copy, Debug, PartialEq, Eq)]
+pub struct CaptionsTx3gConverted {
+    pub refusal: CaptionsRefusal,
+    pub who: u32,
+    pub cues: usize,
+    pub record_bytes: usize,
+    pub pool_bytes: usize,
+    pub t: u32,
+    pub hlit: usize,
+    pub retired_blinking: usize,
+    pub hclr: usize,
+    pub krok: usize,
+    pub dlay: usize,
+    pub href: usize,
+    pub tbox: usize,
+    pub twrp: usize,
+}
+
 extern "C" {
     pub fn captions_judge_utf8(text: *const u8, text_len: usize) -> CaptionsRefusal;
     pub fn captions_step(bytes: *const u8, bytes_len: usize, at: usize) -> CaptionsStep;
@@ -318,6 +346,22 @@ extern "C" {
         samples: *const u8,
         samples_len: usize,
     ) -> CaptionsChecked;
+    pub fn captions_drop_zero_durations_room(
+        table: *const u8,
+        table_len: usize,
+        samples: *const u8,
+        samples_len: usize,
+    ) -> CaptionsDropped;
+    pub fn captions_drop_zero_durations(
+        table: *const u8,
+        table_len: usize,
+        samples: *const u8,
+        samples_len: usize,
+        table_out: *mut u8,
+        table_out_len: usize,
+        samples_out: *mut u8,
+        samples_out_len: usize,
+    ) -> CaptionsDropped;
     pub fn captions_vtt_read_room(file: *const u8, file_len: usize) -> CaptionsVttRead;
     pub fn captions_vtt_read(
         file: *const u8,
@@ -380,4 +424,26 @@ extern "C" {
         sample_len: usize,
         from: usize,
     ) -> CaptionsModifier;
+    pub fn captions_tx3g_convert_room(
+        scale: u32,
+        entry: *const u8,
+        entry_len: usize,
+        table: *const u8,
+        table_len: usize,
+        samples: *const u8,
+        samples_len: usize,
+    ) -> CaptionsTx3gConverted;
+    pub fn captions_tx3g_convert(
+        scale: u32,
+        entry: *const u8,
+        entry_len: usize,
+        table: *const u8,
+        table_len: usize,
+        samples: *const u8,
+        samples_len: usize,
+        records: *mut u8,
+        records_len: usize,
+        pool: *mut u8,
+        pool_len: usize,
+    ) -> CaptionsTx3gConverted;
 }

@@ -1,5 +1,6 @@
 //! Captions in MP4 tracks: WebVTT (`wvtt`) and 3GPP text (`tx3g`) samples and sample entries, cue
-//! lists and tracks, and WebVTT files, as safe functions over a proved library.
+//! lists and tracks, WebVTT files, and tracks of 3GPP text into cues, as safe functions over a proved
+//! library.
 //!
 //! # Pack your first list
 //!
@@ -56,16 +57,32 @@
 //! # }
 //! ```
 //!
+//! # Read an old track of 3GPP text
+//!
+//! ```no_run
+//! use captions::{drop_zero_durations_to_vecs, tx3g, vtt};
+//!
+//! # fn main() -> Result<(), Box<dyn std::error::Error>> {
+//! let [entry, table, samples] = ["entry", "table", "samples"].map(|kind| format!("old.{kind}"));
+//! let (table, samples) = (std::fs::read(table)?, std::fs::read(samples)?);
+//! // Old tracks often end with a sample that lasts no time.
+//! let (table, samples) = drop_zero_durations_to_vecs(&table, &samples)?;
+//! let old = tx3g::convert(90_000, &std::fs::read(entry)?, &table, &samples)?;
+//! std::fs::write("old.vtt", vtt::write("WEBVTT", &old.list)?)?;
+//! # Ok(())
+//! # }
+//! ```
+//!
 //! # What is where
 //!
 //! The modules [`wvtt`], [`vtt`] and [`tx3g`] have the names of the C functions `captions_wvtt_…`,
 //! `captions_vtt_…` and `captions_tx3g_…` of `include/captions.h`; what has no such prefix stands
-//! here. Functions take lent bytes and allocate nothing, but for [`vtt::read`], [`vtt::write()`]
-//! and those that end in `to_vec` or `to_vecs`. A refusal gives a [`Reason`], a place and, of a bad
-//! text, the offset at which it is bad, and writes nothing; on success bytes past the result keep
-//! their content. The place is a byte, an index or, of a file that is read, a line. A [`Fault`]
-//! also says which of several things is at fault: of entry and sample, of list and track, or of
-//! configuration, list and output.
+//! here. Functions take lent bytes and allocate nothing, but for [`vtt::read`], [`vtt::write()`],
+//! [`tx3g::convert`] and those that end in `to_vec` or `to_vecs`. A refusal gives a [`Reason`], a
+//! place and, of a bad text, the offset at which it is bad, and writes nothing; on success bytes
+//! past the result keep their content. The place is a byte, an index or, of a file that is read, a
+//! line. A [`Fault`] also says which of several things is at fault: of entry and sample, of list and
+//! track, of configuration, list and output, or of entry, track and output.
 //!
 //! Over these stand types that are judged once and then read: [`CueList`] and [`CueListRef`],
 //! [`wvtt::Track`], [`wvtt::Sample`], [`wvtt::Entry`], [`tx3g::Entry`] and [`tx3g::Sample`].
@@ -78,12 +95,14 @@
 //! | `captions_wvtt_pack_room`, `_pack` | [`wvtt::Track::pack`], [`wvtt::pack_to_vecs`], [`wvtt::pack_room`], [`wvtt::pack`] |
 //! | `captions_wvtt_unpack_room`, `_unpack` | [`wvtt::Track::unpack`], [`wvtt::unpack_to_vecs`], [`wvtt::unpack_room`], [`wvtt::unpack`] |
 //! | `captions_wvtt_check` | [`wvtt::Track::check`], [`wvtt::check`] |
+//! | `captions_drop_zero_durations_room`, `captions_drop_zero_durations` | [`drop_zero_durations_to_vecs`], [`drop_zero_durations_room`], [`drop_zero_durations`] |
 //! | `captions_vtt_read_room`, `_read` | [`vtt::read`], [`vtt::read_room`], [`vtt::read_into`] |
 //! | `captions_vtt_write_room`, `_write` | [`vtt::write()`], [`vtt::write_room`], [`vtt::write_into`] |
 //! | `captions_tx3g_read_entry`, `_font_at` | [`tx3g::Entry::read`], [`tx3g::Entry::fonts`], [`tx3g::font_at`] |
 //! | `captions_tx3g_read_sample` | [`tx3g::Sample::read`] |
 //! | `captions_tx3g_next_run` | [`tx3g::Sample::runs`], [`tx3g::next_run`] |
 //! | `captions_tx3g_next_modifier` | [`tx3g::Sample::modifiers`], [`tx3g::next_modifier`] |
+//! | `captions_tx3g_convert_room`, `_convert` | [`tx3g::convert`], [`tx3g::convert_room`], [`tx3g::convert_into`] |
 //! | `captions_ms` | [`milliseconds`] |
 //! | every other | the function of its name |
 
@@ -91,6 +110,7 @@
 
 mod bytes;
 pub mod ffi;
+mod lasting;
 pub mod limits;
 mod list;
 mod refusal;
@@ -98,6 +118,9 @@ pub mod tx3g;
 pub mod vtt;
 pub mod wvtt;
 
+pub use lasting::{
+    drop_zero_durations, drop_zero_durations_room, drop_zero_durations_to_vecs, Dropped,
+};
 pub use list::{judge_list, CueList, CueListRef, ListedCue, ListedCues};
 pub use refusal::{Fault, Reason, Refusal, Who};
 

@@ -15,8 +15,16 @@ const CUE: ListedCue = ListedCue {
     payload: "Hi",
 };
 
-const COMMANDS: [&str; 7] = [
-    "pack", "unpack", "check", "judge", "show", "from-vtt", "to-vtt",
+const COMMANDS: [&str; 9] = [
+    "pack",
+    "unpack",
+    "check",
+    "judge",
+    "show",
+    "from-vtt",
+    "to-vtt",
+    "from-3gpp",
+    "drop-zero-durations",
 ];
 
 #[test]
@@ -84,6 +92,15 @@ fn a_command_line_that_is_not_understood_is_trouble() {
         "from-vtt saws.vtt ./",
         "from-vtt saws.vtt .rec",
         "to-vtt saws.vtt",
+        "from-3gpp a b",
+        "from-3gpp a b c.vtt",
+        "from-3gpp saws.vtt - c --scale 1000",
+        "from-3gpp a b c --scale 1000 --header saws.vtt",
+        "from-3gpp a b c d --scale 1000",
+        "drop-zero-durations a",
+        "drop-zero-durations - b",
+        "drop-zero-durations a - b",
+        "drop-zero-durations a b --scale 1000",
     ] {
         let said = folder.run(line).trouble();
         assert!(said.contains("--help"), "{line}: {said}");
@@ -265,6 +282,78 @@ fn a_packed_list_comes_back() {
     folder
         .run("check OUT.VTT track --scale 90000 --t 20000")
         .done();
+}
+
+#[test]
+fn an_old_track_becomes_a_file() {
+    let folder = Folder::new();
+    folder.put_old("ffmpeg-styles");
+    assert_eq!(
+        folder.run("from-3gpp old old old.vtt --scale 1000000").refused(),
+        "refused 10 at sample 6: its duration is 0; captions drop-zero-durations leaves such samples out\n"
+    );
+    assert_eq!(
+        folder.run("drop-zero-durations old lasting").done(),
+        "dropped 1 of 7 samples: 48 bytes of table, 323 of samples\n"
+    );
+    let (table, samples) = (folder.get("old.table"), folder.get("old.samples"));
+    assert_eq!(folder.get("lasting.table"), table[..48]);
+    assert_eq!(folder.get("lasting.samples"), samples[..323]);
+    let line = "from-3gpp old lasting old.vtt --scale 1000000";
+    let told = "6 cues, T 6000 ms (00:00:06.000)\n";
+    assert_eq!(folder.run(line).done(), told);
+    let file = String::from_utf8(folder.get("old.vtt")).expect("text");
+    assert!(
+        file.starts_with(
+            "WEBVTT\n\n00:00:00.000 --> 00:00:01.000\n<b>bold</b> plain <i>italic</i> plain "
+        ),
+        "{file}"
+    );
+    // To standard output, with the header of another file, and as records and pool.
+    let run = folder.run("from-3gpp old.entry lasting.table - --scale 1000000 --header old.vtt");
+    assert_eq!((run.status, &run.err[..]), (Some(0), told));
+    assert_eq!(run.out, file);
+    folder
+        .run("from-3gpp old lasting list --scale 1000000")
+        .done();
+    let list = vtt::read(file.as_bytes()).expect("a good file");
+    assert_eq!(folder.get("list.rec"), list.records());
+    assert_eq!(folder.get("list.pool"), list.pool());
+    // A name may be replaced by itself; then there is nothing more to drop.
+    folder.run("drop-zero-durations old old").done();
+    let told = "dropped 0 of 6 samples: 48 bytes of table, 323 of samples\n";
+    assert_eq!(folder.run("drop-zero-durations old.table old").done(), told);
+}
+
+#[test]
+fn what_an_old_track_loses_is_told() {
+    let folder = Folder::new();
+    folder.put_old("made-modifiers");
+    let left_out =
+        "left out: 1 hlit, 1 retired blinking, 1 hclr, 1 krok, 1 dlay, 3 href, 1 tbox, 1 twrp\n";
+    assert_eq!(
+        folder.run("from-3gpp old old old.vtt --scale 1000").done(),
+        format!("11 cues, T 12000 ms (00:00:12.000)\n{left_out}")
+    );
+    let run = folder.run("from-3gpp old old - --scale 1000");
+    assert!(run.err.ends_with(left_out) && run.out.starts_with("WEBVTT\n\n"));
+    for (name, scale, words) in [
+        (
+            "ffmpeg-nofontname",
+            1_000_000,
+            "refused 8 at byte 0: in the entry, the default font 1 is not in the ftab\n",
+        ),
+        (
+            "made-bad-range-bytes",
+            1000,
+            "refused 7 at sample 0: at its byte 7, style 0 from 0 to 5 ends past the 2 characters of the text\n",
+        ),
+    ] {
+        folder.put_old(name);
+        let said = folder.run(&format!("from-3gpp old old new.vtt --scale {scale}"));
+        assert_eq!(said.refused(), words);
+    }
+    assert!(!folder.path("new.vtt").exists());
 }
 
 #[test]

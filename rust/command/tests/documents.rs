@@ -29,6 +29,12 @@ fn examples() -> Folder {
         "vtt/style.vtt",
         "tx3g/goggles.entry",
         "tx3g/goggles.sample",
+        "tx3g/stock.entry",
+        "tx3g/stock.table",
+        "tx3g/stock.samples",
+        "tx3g/hot.entry",
+        "tx3g/hot.table",
+        "tx3g/hot.samples",
     ] {
         let path = top().join("examples").join(name);
         let bytes = fs::read(&path).expect("the example is there");
@@ -55,9 +61,9 @@ fn the_worked_example_of_the_command_s_document() {
     );
 }
 
-#[test]
-fn the_first_command_of_the_readme() {
-    let run = Command::new(top().join("examples/first"))
+/// Runs a script of the examples, whose output README shows.
+fn script(name: &str) {
+    let run = Command::new(top().join("examples").join(name))
         .env("CAPTIONS", CAPTIONS)
         .output();
     let run = run.expect("the script runs");
@@ -67,4 +73,10 @@ fn the_first_command_of_the_readme() {
         blocks("README.md", "```console").contains(&printed),
         "{printed}"
     );
+}
+
+#[test]
+fn the_scripts_of_the_readme() {
+    script("first");
+    script("stock");
 }

@@ -14,16 +14,17 @@ use common::{list, saws, Folder, CAPTIONS, NOBODY};
 
 const TIMES: &str = "--scale 1000 --t 20000";
 
-/// A folder with a list, its track and the file.
+/// A folder with a list, its track and the file, and a track of 3GPP text.
 fn whole() -> Folder {
     let folder = Folder::with_saws();
     folder.run("from-vtt saws.vtt list").done();
     folder.run(&format!("pack saws.vtt track {TIMES}")).done();
+    folder.put_old("made-modifiers");
     folder
 }
 
 /// The commands, each with all of its inputs.
-fn lines() -> [String; 9] {
+fn lines() -> [String; 11] {
     [
         format!("pack list out {TIMES}"),
         format!("check list track {TIMES}"),
@@ -34,6 +35,8 @@ fn lines() -> [String; 9] {
         "to-vtt list out.vtt --header track.entry".into(),
         "from-vtt saws.vtt out".into(),
         "show track track --scale 1000".into(),
+        "from-3gpp old old out.vtt --scale 1000".into(),
+        "drop-zero-durations track out".into(),
     ]
 }
 
@@ -47,6 +50,9 @@ fn spoiled(spoil: fn(&std::path::Path), why: &str) {
         "track.table",
         "track.samples",
         "track.entry",
+        "old.table",
+        "old.samples",
+        "old.entry",
     ] {
         let folder = whole();
         fs::remove_file(folder.path(file)).expect("it was there");
@@ -68,7 +74,8 @@ fn spoiled(spoil: fn(&std::path::Path), why: &str) {
                     let said = run.trouble();
                     assert!(
                         said.starts_with(&format!("captions: {file}: "))
-                            || said.contains("track: "),
+                            || said.contains("track: ")
+                            || said.contains("old: "),
                         "{said}"
                     );
                     assert!(said.contains(why), "{said}");
@@ -78,7 +85,7 @@ fn spoiled(spoil: fn(&std::path::Path), why: &str) {
         }
     }
     // Each of the files by the commands that read it.
-    assert_eq!(refused, 1 + 4 + 4 + 4 + 4 + 2);
+    assert_eq!(refused, 1 + 4 + 4 + 5 + 5 + 2 + 3);
 }
 
 #[test]

@@ -326,7 +326,7 @@ fn the_manual_has_every_command_and_option() {
     let manual = installed("share/man/man1/captions.1").replace("\\-", "-");
     let known = options(&manual);
     let commands = commands();
-    assert_eq!(commands.len(), 7);
+    assert_eq!(commands.len(), 9);
     for command in &commands {
         let title = format!(".SS {command} ");
         assert!(manual.contains(&title), "{command}");
@@ -380,6 +380,10 @@ fn the_manual_s_examples_run() {
     let examples = examples(&manual);
     let (file, scripts) = examples.split_first().expect("there are examples");
     fs::write(folder.join("talk.vtt"), file).expect("it can be written");
+    for kind in ["entry", "table", "samples"] {
+        let from = top().join("examples/tx3g").join(format!("stock.{kind}"));
+        fs::copy(from, folder.join(format!("old.{kind}"))).expect("the example is there");
+    }
     let mut path = prefix().join("bin").into_os_string();
     path.push(":");
     path.push(env::var_os("PATH").unwrap_or_default());
@@ -400,6 +404,8 @@ fn the_manual_s_examples_run() {
     assert_eq!(outputs.next().expect("the picture").0, Some(1));
     assert!(folder.join("talk.svg").exists());
     assert_eq!(outputs.next().expect("unpacking").0, Some(0));
+    assert_eq!(outputs.next(), Some((Some(0), String::new())));
+    assert!(folder.join("old.vtt").exists());
     assert_eq!(outputs.next(), None);
 }
 
@@ -458,6 +464,10 @@ fn completion_offers_files_and_kinds() {
         (&["show", "entry", "--"], &["--help", "--json", "--out"]),
         (&["show", "list", "b.vtt", "--track", ""], &["c", "sub"]),
         (&["from-vtt", ""], &["b.vtt", "sub"]),
+        (&["from-3gpp", ""], &["c", "sub"]),
+        (&["from-3gpp", "c", "c", ""], &["b.vtt", "my talk", "sub"]),
+        (&["d"], &["drop-zero-durations"]),
+        (&["drop-zero-durations", ""], &["c", "sub"]),
         (&["nothing", ""], &[]),
     ] {
         assert_eq!(completed(words), wanted, "{words:?}");

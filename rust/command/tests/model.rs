@@ -6,8 +6,8 @@ mod common;
 use std::fs;
 
 use captions_harness::generate::{
-    check_input, damage_bytes, tx3g_entry, tx3g_input, unpack_input, vtt_file, vtt_parts,
-    wvtt_entry, wvtt_sample, CueList, Track,
+    check_input, damage_bytes, tx3g_entry, tx3g_input, tx3g_track, unpack_input, vtt_file,
+    vtt_parts, wvtt_entry, wvtt_sample, zero_durations, CueList, Track, Tx3gTrack,
 };
 use captions_harness::random::Random;
 use captions_harness::{Library, Model, Refusal};
@@ -144,6 +144,60 @@ fn unpacking() {
             shown.status == Some(1) || lines == table.len() / 8,
             "{lines}"
         );
+    }
+}
+
+#[test]
+fn old_tracks() {
+    let folder = Folder::new();
+    for mut random in (0..ROUNDS).map(Random::new) {
+        let Tx3gTrack {
+            scale,
+            entry,
+            track: Track { table, samples },
+        } = tx3g_track(&mut random);
+        folder.put("old.entry", &entry);
+        folder.put("old.table", &table);
+        folder.put("old.samples", &samples);
+        let room = Model
+            .convert_tx3g_room(scale, &entry, &table, &samples)
+            .expect("the model converts");
+        let run = folder.run(&format!("from-3gpp old old out --scale {scale}"));
+        assert_eq!(
+            said(&run),
+            expected(Some(room.map_err(|fault| fault.refusal)))
+        );
+        let converted = room.ok().map(|room| {
+            let (mut records, mut pool) = (vec![0; room.record_bytes], vec![0; room.pool_bytes]);
+            let converted =
+                Model.convert_tx3g(scale, &entry, &table, &samples, &mut records, &mut pool);
+            assert_eq!(converted, Some(Ok(room)));
+            assert!(run.out.contains(&format!("T {} ms", room.t)), "{}", run.out);
+            vec![records, pool]
+        });
+        assert_eq!(outputs(&folder, &[".rec", ".pool"]), converted);
+    }
+}
+
+#[test]
+fn samples_of_duration_0() {
+    let folder = Folder::new();
+    for mut random in (0..ROUNDS).map(Random::new) {
+        let Track { table, samples } = zero_durations(&mut random);
+        folder.put("old.table", &table);
+        folder.put("old.samples", &samples);
+        let room = Model
+            .drop_zero_durations_room(&table, &samples)
+            .expect("the model drops");
+        let run = folder.run("drop-zero-durations old out");
+        assert_eq!(said(&run), expected(Some(room)));
+        let left = room.ok().map(|room| {
+            let (mut rows, mut bytes) = (vec![0; room.table_bytes], vec![0; room.sample_bytes]);
+            let dropped = Model.drop_zero_durations(&table, &samples, &mut rows, &mut bytes);
+            assert_eq!(dropped, Some(Ok(room)));
+            vec![rows, bytes]
+        });
+        assert_eq!(outputs(&folder, &[".table", ".samples"]), left);
     }
 }
 

@@ -3,8 +3,8 @@
 use std::ops::Range;
 
 use captions::tx3g;
-use captions_harness::{Cue, Entry, Fault, Fields, Font, Look, Modifier, Refusal, Run, RunAt};
-use captions_harness::{Span, TextBoxAt, Tx3gSample, Who};
+use captions_harness::{Converted, Cue, Dropped, DroppedBoxes, Entry, Fault, Fields, Font, Look};
+use captions_harness::{Modifier, Refusal, Run, RunAt, Span, TextBoxAt, Tx3gSample, Who};
 
 pub fn refusal(refusal: captions::Refusal) -> Refusal {
     Refusal {
@@ -44,6 +44,34 @@ fn range(range: Range<usize>) -> Span {
     Span {
         start: range.start,
         end: range.end,
+    }
+}
+
+pub fn dropped(dropped: captions::Dropped) -> Dropped {
+    Dropped {
+        samples: dropped.samples,
+        table_bytes: dropped.table_bytes,
+        sample_bytes: dropped.sample_bytes,
+    }
+}
+
+pub fn converted(sizes: tx3g::ConvertedSizes) -> Converted {
+    let left_out = sizes.dropped;
+    Converted {
+        cues: sizes.cues,
+        record_bytes: sizes.record_bytes,
+        pool_bytes: sizes.pool_bytes,
+        t: sizes.t,
+        dropped: DroppedBoxes {
+            hlit: left_out.hlit,
+            retired_blinking: left_out.retired_blinking,
+            hclr: left_out.hclr,
+            krok: left_out.krok,
+            dlay: left_out.dlay,
+            href: left_out.href,
+            tbox: left_out.tbox,
+            twrp: left_out.twrp,
+        },
     }
 }
 

@@ -8,10 +8,9 @@ use std::hint::black_box;
 
 use captions::limits::LARGEST_MS;
 use captions::{tx3g, vtt, wvtt, CueList};
-use captions_harness::{BoxAt, Cue, Entry, Fault, Fields, Font, Library, Modifier, Next};
-use captions_harness::{
-    Offered, Packed, Refusal, Run, RunAt, RunInput, Span, TextBoxAt, Tx3gSample, Unpacked, VttRead,
-};
+use captions_harness::{BoxAt, Converted, Cue, Dropped, Entry, Fault, Fields, Font, Library};
+use captions_harness::{Modifier, Next, Offered, Packed, Refusal, Run, RunAt, RunInput, Span};
+use captions_harness::{TextBoxAt, Tx3gSample, Unpacked, VttRead};
 
 use convert::{fault, refusal};
 
@@ -226,6 +225,38 @@ impl Library for Proved {
         Some(answer.map(unpacked).map_err(refusal))
     }
 
+    /// As the static library measures it; what the safe function copies must agree.
+    fn drop_zero_durations_room(
+        &self,
+        table: &[u8],
+        samples: &[u8],
+    ) -> Offered<Result<Dropped, Refusal>> {
+        Some(lend([table, samples], |[table, samples]| {
+            let room = captions::drop_zero_durations_room(table, samples);
+            let copied = captions::drop_zero_durations_to_vecs(table, samples);
+            let measure = |(rows, bytes): (Vec<u8>, Vec<u8>)| captions::Dropped {
+                samples: rows.len() / 8,
+                table_bytes: rows.len(),
+                sample_bytes: bytes.len(),
+            };
+            assert_eq!(copied.map(measure), room);
+            room.map(convert::dropped).map_err(refusal)
+        }))
+    }
+
+    fn drop_zero_durations(
+        &self,
+        table: &[u8],
+        samples: &[u8],
+        table_out: &mut [u8],
+        samples_out: &mut [u8],
+    ) -> Offered<Result<Dropped, Refusal>> {
+        let answer = lend([table, samples], |[table, samples]| {
+            captions::drop_zero_durations(table, samples, table_out, samples_out)
+        });
+        Some(answer.map(convert::dropped).map_err(refusal))
+    }
+
     fn check(
         &self,
         scale: u32,
@@ -394,6 +425,44 @@ impl Library for Proved {
             let found = tx3g::text_box(entry, sample).map_err(fault)?;
             Ok(convert::text_box(entry, sample, found))
         }))
+    }
+
+    /// As the static library measures it; the list that the safe function makes must agree.
+    fn convert_tx3g_room(
+        &self,
+        scale: u32,
+        entry: &[u8],
+        table: &[u8],
+        samples: &[u8],
+    ) -> Offered<Result<Converted, Fault>> {
+        Some(lend([entry, table, samples], |[entry, table, samples]| {
+            let room = tx3g::convert_room(scale, entry, table, samples);
+            let made = tx3g::convert(scale, entry, table, samples);
+            let measure = |made: tx3g::Converted| tx3g::ConvertedSizes {
+                cues: made.list.len(),
+                record_bytes: made.list.records().len(),
+                pool_bytes: made.list.pool().len(),
+                t: made.t,
+                dropped: made.dropped,
+            };
+            assert_eq!(made.map(measure), room);
+            room.map(convert::converted).map_err(fault)
+        }))
+    }
+
+    fn convert_tx3g(
+        &self,
+        scale: u32,
+        entry: &[u8],
+        table: &[u8],
+        samples: &[u8],
+        records: &mut [u8],
+        pool: &mut [u8],
+    ) -> Offered<Result<Converted, Fault>> {
+        let answer = lend([entry, table, samples], |[entry, table, samples]| {
+            tx3g::convert_into(scale, entry, table, samples, records, pool)
+        });
+        Some(answer.map(convert::converted).map_err(fault))
     }
 }
 

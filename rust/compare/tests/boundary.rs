@@ -55,6 +55,7 @@ answers! {
     CaptionsWritten: refusal;
     CaptionsPacked: refusal;
     CaptionsUnpacked: refusal;
+    CaptionsDropped: refusal;
     CaptionsVttRead: refusal;
     CaptionsTx3gEntry: refusal;
     CaptionsCount: refusal;
@@ -64,6 +65,7 @@ answers! {
     CaptionsTx3gSample: refusal, who;
     CaptionsStyle: refusal, who;
     CaptionsTextBox: refusal, who;
+    CaptionsTx3gConverted: refusal, who;
 }
 
 /// Judged by its refusal alone.
@@ -152,6 +154,39 @@ fn no_list_and_no_track_are_answered() {
         let checked = both_ways(|p| captions_wvtt_check(1000, 1, p, 0, p, 0, p, 0, p, 0));
         is_refusal(checked, 16, 0);
         assert_eq!(checked.who, 4);
+        let room = both_ways(|p| captions_drop_zero_durations_room(p, 0, p, 0));
+        assert_eq!(room, CaptionsDropped::zero());
+        let none: *mut u8 = null_mut();
+        let dropped = both_ways(|p| captions_drop_zero_durations(p, 0, p, 0, none, 0, none, 0));
+        assert_eq!(dropped, CaptionsDropped::zero());
+    }
+}
+
+/// An entry of font 1 and nothing else.
+fn bare_entry() -> Vec<u8> {
+    let mut entry = b"\0\0\0\x3Btx3g".to_vec();
+    entry.extend([0; 38]);
+    entry[39] = 1;
+    entry.extend(b"\0\0\0\x0Dftab\0\x01\0\x01\0");
+    entry
+}
+
+#[test]
+fn no_tx3g_track_is_answered() {
+    let none: *mut u8 = null_mut();
+    let entry = bare_entry();
+    let (e, e_len) = (entry.as_ptr(), entry.len());
+    // SAFETY: no bytes, or a pointer and the length of a slice.
+    unsafe {
+        let room = |scale| both_ways(|p| captions_tx3g_convert_room(scale, p, 0, p, 0, p, 0));
+        is_refusal(room(0), 10, 0);
+        is_refusal(room(1), 1, 0);
+        assert_eq!([room(0).who, room(1).who], [4, 1]);
+        let room = both_ways(|p| captions_tx3g_convert_room(1, e, e_len, p, 0, p, 0));
+        is_refusal(room, 10, 0);
+        let converted =
+            both_ways(|p| captions_tx3g_convert(1, e, e_len, p, 0, p, 0, none, 0, none, 0));
+        assert_eq!((converted, room.who), (room, 4));
     }
 }
 
@@ -223,6 +258,31 @@ fn no_room_is_answered() {
     }
 }
 
+#[test]
+fn no_room_for_an_old_track_is_answered() {
+    let none: *mut u8 = null_mut();
+    let (entry, row, sample) = (bare_entry(), b"\0\0\0\x01\0\0\0\x03", b"\0\x01a");
+    let (e, e_len, table, samples) = (entry.as_ptr(), 59, row.as_ptr(), sample.as_ptr());
+    let mut out = [0u8; 24];
+    let out = out.as_mut_ptr();
+    // SAFETY: no bytes, or pointers and lengths of slices.
+    unsafe {
+        let drop = |room, bytes| {
+            captions_drop_zero_durations(table, 8, samples, 3, out, room, none, bytes)
+        };
+        is_refusal(drop(7, 0), 15, 0);
+        is_refusal(drop(8, 0), 15, 1);
+        let convert =
+            |room| captions_tx3g_convert(1000, e, e_len, table, 8, samples, 3, out, room, none, 0);
+        is_refusal(convert(23), 15, 0);
+        is_refusal(convert(24), 15, 1);
+        assert_eq!([convert(23).who, convert(24).who], [6, 6]);
+        let room = captions_tx3g_convert_room(1000, e, e_len, table, 8, samples, 3);
+        assert_eq!((room.refusal, room.who, room.cues, room.t), (DONE, 0, 1, 1));
+        assert_eq!((room.record_bytes, room.pool_bytes), (24, 1));
+    }
+}
+
 /// Where an entry has no label, its text is not looked at.
 #[test]
 fn a_text_beside_no_label_is_not_judged() {
@@ -264,6 +324,7 @@ fn what_an_answer_leaves_free_is_0() {
         free_in_wvtt(&mut random);
         free_in_files(&mut random);
         free_in_tx3g(&mut random);
+        free_in_old_tracks(&mut random);
     }
 }
 
@@ -350,5 +411,31 @@ fn free_in_tx3g(random: &mut Random) {
         let look = [run.font, run.face, run.size, run.red, run.green, run.blue];
         assert!(run.styled || (look, run.alpha) == ([0; 6], 0));
         assert!(run.found || (run.from, run.end, run.styles, run.styles_from) == (0, 0, 0, 0));
+    }
+}
+
+fn free_in_old_tracks(random: &mut Random) {
+    let make::Tx3gTrack {
+        scale,
+        entry,
+        track: make::Track { table, samples },
+    } = make::tx3g_track(random);
+    let (e, e_len) = (entry.as_ptr(), entry.len());
+    let (t, t_len, s, s_len) = (table.as_ptr(), table.len(), samples.as_ptr(), samples.len());
+    let mut out = vec![0; random.below(100)];
+    let (out, out_len, none) = (out.as_mut_ptr(), out.len(), null_mut());
+    // SAFETY: pointers and lengths of slices.
+    unsafe {
+        let room = captions_tx3g_convert_room(scale, e, e_len, t, t_len, s, s_len);
+        let made =
+            captions_tx3g_convert(scale, e, e_len, t, t_len, s, s_len, out, out_len, none, 0);
+        for answer in [room, made] {
+            zero_beside_refusal(answer, true);
+            assert_eq!(answer.refusal.number == 0, answer.who == 0);
+        }
+        let room = captions_drop_zero_durations_room(t, t_len, s, s_len);
+        zero_beside_refusal(room, true);
+        let made = captions_drop_zero_durations(t, t_len, s, s_len, out, out_len, none, 0);
+        zero_beside_refusal(made, true);
     }
 }

@@ -1,5 +1,6 @@
 //! Two libraries on the same random inputs.
 
+mod converting;
 mod outputs;
 mod tx3g;
 mod vtt;
@@ -134,7 +135,7 @@ pub fn differential_round(
 type Compared = Result<(), Difference>;
 type Operation = fn(&mut Pair, &mut Random) -> Compared;
 
-const OPERATIONS: [Operation; 19] = [
+const OPERATIONS: [Operation; 21] = [
     compare_fields,
     compare_times,
     compare_texts,
@@ -154,6 +155,8 @@ const OPERATIONS: [Operation; 19] = [
     tx3g::compare_entry,
     tx3g::compare_sample,
     tx3g::compare_run,
+    converting::compare_conversion,
+    converting::compare_dropping,
 ];
 
 /// The two libraries and the round.
@@ -217,7 +220,9 @@ impl Pair<'_> {
         ask: impl Fn(&dyn Library) -> Option<T>,
         count: impl Fn(&T) -> Counted,
     ) -> Result<Option<T>, Difference> {
-        let (Some(a), Some(b)) = (ask(self.a), ask(self.b)) else {
+        // Where the second does not offer it, the first need not answer.
+        let answers = ask(self.b).and_then(|b| Some((ask(self.a)?, b)));
+        let Some((a, b)) = answers else {
             *self.counts.skipped.entry(operation).or_default() += 1;
             return Ok(None);
         };

@@ -1,9 +1,10 @@
 //! What an implementation offers.
 
 use captions_model::boxes::BoxAt;
+use captions_model::lasting::Dropped;
 use captions_model::pack::Packed;
 use captions_model::runs::{Run, RunAt};
-use captions_model::tx3g::{Fields, Font, Modifier};
+use captions_model::tx3g::{Converted, Fields, Font, Modifier};
 use captions_model::unpack::Unpacked;
 use captions_model::vtt::Read as VttRead;
 use captions_model::wvtt::{Cue, Entry};
@@ -211,6 +212,26 @@ pub trait Library {
         None
     }
 
+    /// What dropping the samples of duration 0 answers given room for everything.
+    fn drop_zero_durations_room(
+        &self,
+        table: &[u8],
+        samples: &[u8],
+    ) -> Offered<Result<Dropped, Refusal>> {
+        None
+    }
+
+    /// Copies a table and its samples without those of duration 0.
+    fn drop_zero_durations(
+        &self,
+        table: &[u8],
+        samples: &[u8],
+        table_out: &mut [u8],
+        samples_out: &mut [u8],
+    ) -> Offered<Result<Dropped, Refusal>> {
+        None
+    }
+
     /// Checks a track against a cue list.
     fn check(
         &self,
@@ -312,6 +333,30 @@ pub trait Library {
 
     /// The text box in force.
     fn text_box(&self, entry: &[u8], sample: &[u8]) -> Offered<Result<TextBoxAt, Fault>> {
+        None
+    }
+
+    /// What converting a `tx3g` track answers given room for everything.
+    fn convert_tx3g_room(
+        &self,
+        scale: u32,
+        entry: &[u8],
+        table: &[u8],
+        samples: &[u8],
+    ) -> Offered<Result<Converted, Fault>> {
+        None
+    }
+
+    /// Converts a `tx3g` track into records and a pool.
+    fn convert_tx3g(
+        &self,
+        scale: u32,
+        entry: &[u8],
+        table: &[u8],
+        samples: &[u8],
+        records: &mut [u8],
+        pool: &mut [u8],
+    ) -> Offered<Result<Converted, Fault>> {
         None
     }
 

@@ -1,9 +1,10 @@
 //! The model as a library.
 
 use captions_model::boxes::{self, BoxAt};
+use captions_model::lasting::{self, Dropped};
 use captions_model::pack::{self, Packed};
 use captions_model::runs::{self, Run, RunAt};
-use captions_model::tx3g::{self, Fields, Font, Modifier};
+use captions_model::tx3g::{self, Converted, Fields, Font, Modifier};
 use captions_model::unpack::{self, Unpacked};
 use captions_model::vtt::{self, Read as VttRead};
 use captions_model::wvtt::{self, Cue, Entry};
@@ -171,6 +172,25 @@ impl Library for Model {
         Some(unpack::unpack(scale, table, samples, records, pool))
     }
 
+    fn drop_zero_durations_room(
+        &self,
+        table: &[u8],
+        samples: &[u8],
+    ) -> Offered<Result<Dropped, Refusal>> {
+        Some(lasting::room(table, samples))
+    }
+
+    fn drop_zero_durations(
+        &self,
+        table: &[u8],
+        samples: &[u8],
+        table_out: &mut [u8],
+        samples_out: &mut [u8],
+    ) -> Offered<Result<Dropped, Refusal>> {
+        let dropped = lasting::drop_zero_durations(table, samples, table_out, samples_out);
+        Some(dropped)
+    }
+
     fn check(
         &self,
         scale: u32,
@@ -272,6 +292,28 @@ impl Library for Model {
                 sides: found.sides,
             }
         }))
+    }
+
+    fn convert_tx3g_room(
+        &self,
+        scale: u32,
+        entry: &[u8],
+        table: &[u8],
+        samples: &[u8],
+    ) -> Offered<Result<Converted, Fault>> {
+        Some(tx3g::convert_room(scale, entry, table, samples))
+    }
+
+    fn convert_tx3g(
+        &self,
+        scale: u32,
+        entry: &[u8],
+        table: &[u8],
+        samples: &[u8],
+        records: &mut [u8],
+        pool: &mut [u8],
+    ) -> Offered<Result<Converted, Fault>> {
+        Some(tx3g::convert(scale, entry, table, samples, records, pool))
     }
 
     fn program(

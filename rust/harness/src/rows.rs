@@ -55,7 +55,12 @@ impl<'a> Row<'a> {
     }
 
     pub fn judged(&self) -> (Judged, &[&'a str]) {
-        judged(&self.answers, self.offsets)
+        self.judged_after(0)
+    }
+
+    /// As [`Row::judged`], after so many other answers.
+    pub fn judged_after(&self, others: usize) -> (Judged, &[&'a str]) {
+        judged(&self.answers[others..], self.offsets)
     }
 
     pub fn tx3g_judged(&self) -> (Judged, &[&'a str]) {

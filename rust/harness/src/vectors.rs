@@ -1,7 +1,9 @@
 //! Runs every row, every foreign track and every foreign file against a library.
 
+mod convert;
 mod files;
 mod foreign;
+mod old_tracks;
 
 use std::fmt::{self, Debug, Display};
 use std::path::Path;
@@ -18,8 +20,10 @@ use captions_model::{Fault, Refusal, Who};
 use crate::library::{Library, Tx3gSample};
 use crate::rows::{bytes, hex, number, who, Form, Refused, Row};
 
+use convert::run_convert;
 use files::run_files;
 use foreign::{run_foreign, run_foreign_programs};
+use old_tracks::run_old_tracks;
 
 /// What became of a row.
 enum Verdict {
@@ -139,7 +143,12 @@ const ANY_CTIM_NOTES: Form = Form {
     ignored: 1,
     ..NOTES
 };
-const RUNNERS: [(&str, Form, Runner); 25] = [
+/// Rows with `notes` first, of a question whose answers are the same for either.
+const ANY_NOTES: Form = Form {
+    ignored: 1,
+    ..OFFSETS
+};
+const RUNNERS: [(&str, Form, Runner); 26] = [
     ("text.tsv", PLACES, run_text),
     ("sample.tsv", PLACES, run_sample),
     ("wvtt_entry.tsv", PLACES, run_wvtt_entry),
@@ -165,6 +174,7 @@ const RUNNERS: [(&str, Form, Runner); 25] = [
     ("02/write_vtt.tsv", NOTES, run_write_vtt),
     ("02/tx3g_entry.tsv", OFFSETS, run_tx3g_entry),
     ("02/tx3g_sample.tsv", OFFSETS, run_tx3g_blinking),
+    ("02/convert_tx3g.tsv", ANY_NOTES, run_convert),
 ];
 
 /// Runs all rows, foreign tracks and foreign files below `dir`.
@@ -176,6 +186,7 @@ pub fn run_vectors(library: &dyn Library, dir: &Path) -> io::Result<Report> {
     files.push(run_foreign(library, &dir.join("foreign"))?);
     files.push(run_foreign_programs(library, &dir.join("foreign/wvtt"))?);
     files.push(run_files(library, &dir.join("foreign/vtt"))?);
+    files.push(run_old_tracks(library, &dir.join("foreign/tx3g"))?);
     Ok(Report { files })
 }
 

@@ -6,10 +6,10 @@ use captions_harness::{
 };
 use captions_model::{list, text};
 
-const ROUNDS: u64 = 60_000;
+const ROUNDS: u64 = 66_000;
 
 fn compared() -> Counts {
-    differential(&Model, &Model, 1, ROUNDS).unwrap_or_else(|d| panic!("{d}"))
+    differential(&Model, &Model, 2, ROUNDS).unwrap_or_else(|d| panic!("{d}"))
 }
 
 fn assert_reached(counts: &Counts, operation: &'static str, numbers: &[u32]) {
@@ -52,6 +52,11 @@ fn every_number_is_reached() {
     reached("write_vtt_room", &[0, 1, 6, 8, 9, 10, 11, 12]);
     reached("write_vtt", &[0, 1, 6, 8, 9, 10, 11, 12, 15]);
     reached("read_written_vtt", &[0, 19]);
+    reached("convert_tx3g_room", &[0, 1, 2, 3, 4, 6, 7, 8, 9, 10]);
+    reached("convert_tx3g", &[0, 1, 2, 3, 4, 6, 7, 8, 9, 10, 15]);
+    reached("converted_vtt", &[0]);
+    reached("drop_zero_durations_room", &[0, 1, 2, 4, 9]);
+    reached("drop_zero_durations", &[0, 1, 2, 4, 9, 15]);
 }
 
 /// Wherever a text is judged, texts are bad at the first offsets and at so many in all.
@@ -85,6 +90,7 @@ fn many_offsets_are_reached() {
     reached("style", 30);
     reached("text_box", 30);
     reached("modifiers", 30);
+    reached("convert_tx3g", 20);
 }
 
 /// That a wrong library is found, and at which operation.

@@ -1,12 +1,13 @@
 //! A plain model of the captions library: WebVTT (`wvtt`) and 3GPP text (`tx3g`)
-//! samples and sample entries, cue lists, tracks, packing, unpacking and the check, and
-//! WebVTT files.
+//! samples and sample entries, cue lists, tracks, packing, unpacking and the check, WebVTT
+//! files, and 3GPP text as cues.
 //!
 //! All inputs and outputs are lent byte slices. A refusal gives a number, a place and an
 //! offset, and leaves every output as it was.
 
 pub mod boxes;
 pub mod check;
+pub mod lasting;
 pub mod list;
 pub mod pack;
 pub mod program;

@@ -2,7 +2,7 @@
 
 use std::slice;
 
-use crate::tx3g::{read_both, style_range, STYLE};
+use crate::tx3g::{read_both, style_range, Entry, Sample, STYLE};
 use crate::{Fault, Span};
 
 /// Font, face, size and colour: a style without its range.
@@ -26,13 +26,18 @@ pub struct Run {
 /// stretches of characters that are in none.
 pub fn runs<'a>(entry: &[u8], sample: &'a [u8]) -> Result<Runs<'a>, Fault> {
     let (entry, read) = read_both(entry, sample)?;
-    Ok(Runs {
+    Ok(runs_of(&entry, &read, sample))
+}
+
+/// As [`runs`], of what was read.
+pub(crate) fn runs_of<'a>(entry: &Entry, read: &Sample, sample: &'a [u8]) -> Runs<'a> {
+    Runs {
         styles: read.style_records(sample).iter(),
         default: look(&entry.style()),
         from: 0,
         characters: read.characters,
         waiting: None,
-    })
+    }
 }
 
 /// See [`runs`].

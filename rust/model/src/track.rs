@@ -18,12 +18,23 @@ pub fn table_records(table: &[u8]) -> impl ExactSizeIterator<Item = (u32, u32)> 
 
 /// Judges a whole track.
 pub fn judge_track(table: &[u8], samples: &[u8]) -> Result<(), Refusal> {
+    judge_table(table, samples, |duration| duration != 0, judge_sample)
+}
+
+/// Judges a table and that its sizes use up the samples; each duration by `lasts` and each
+/// sample's bytes by `read`.
+pub(crate) fn judge_table<'a>(
+    table: &[u8],
+    samples: &'a [u8],
+    lasts: impl Fn(u32) -> bool,
+    read: impl Fn(&'a [u8]) -> Result<(), Refusal>,
+) -> Result<(), Refusal> {
     let count = table.len() / TABLE_RECORD;
     ensure(table.len().is_multiple_of(TABLE_RECORD), BYTES_MISSING, 0)?;
     ensure(count <= MOST_SAMPLES, PAST_LIMIT, 0)?;
     let mut rest = samples;
     for (index, (duration, size)) in table_records(table).enumerate() {
-        ensure(duration != 0, BAD_TIME, index)?;
+        ensure(lasts(duration), BAD_TIME, index)?;
         ensure(size != 0, BOX_MISSING, index)?;
         let Some((sample, after)) = rest.split_at_checked(size as usize) else {
             return refuse(BYTES_MISSING, index);
@@ -32,7 +43,7 @@ pub fn judge_track(table: &[u8], samples: &[u8]) -> Result<(), Refusal> {
             place: index,
             ..fault
         };
-        judge_sample(sample).map_err(at_index)?;
+        read(sample).map_err(at_index)?;
         rest = after;
     }
     ensure(rest.is_empty(), BAD_SIZE, count)

@@ -1,7 +1,9 @@
 //! 3GPP text: sample entries, samples, styles and text boxes.
 
+mod convert;
 mod modifiers;
 
+pub use convert::{convert, convert_room, Converted, DroppedBoxes};
 pub use modifiers::{modifiers, next_modifier, Modifier};
 
 use modifiers::read_modifier;
@@ -219,7 +221,8 @@ impl Sample {
 /// The kinds that stand at most once.
 const SINGLE_KINDS: [&[u8; 4]; 6] = [b"styl", b"hclr", b"krok", b"dlay", b"tbox", b"twrp"];
 
-fn read_content(fonts: &Fonts, sample: &[u8]) -> Result<Sample, Refusal> {
+/// Judges a sample beside the fonts of its entry, and reads it.
+pub fn read_content(fonts: &Fonts, sample: &[u8]) -> Result<Sample, Refusal> {
     let mut read = read_text(sample)?;
     let mut seen = 0u8;
     for found in boxes_from(sample, read.modifiers) {

@@ -170,9 +170,14 @@ fn judge_times(scale: u32, joined: &Joined) -> Result<u32, Refusal> {
         let end = milliseconds(scale, cue.end);
         ensure(start < end && end <= MOST_MS, BAD_TIME, index)?;
     }
-    let t = milliseconds(scale, joined.end);
+    judge_end(scale, joined.end, joined.cues.len())
+}
+
+/// Judges the tick at which a track ends; gives T in milliseconds.
+pub(crate) fn judge_end(scale: u32, end: u64, cues: usize) -> Result<u32, Refusal> {
+    let t = milliseconds(scale, end);
     let good = (1..=MOST_MS).contains(&t) && tick(scale, t as u32) <= MOST_TICK;
-    ensure(good, BAD_TIME, joined.cues.len())?;
+    ensure(good, BAD_TIME, cues)?;
     Ok(t as u32)
 }
 

@@ -1,11 +1,12 @@
-use Rattle.conform.proofs.Laws.{ends-short, ends-well, few-rows, in-table, row-inside, sound-rises, sound-pooled, reached-start, reached-on, answerFrom, answer-start, answer-past, answer-wrong, answer-on}
+use Rattle.conform.proofs.Laws.{ends-short, ends-well, few-rows, row-inside, sound-rises, sound-pooled, reached-start, reached-on, answerFrom, answer-start, answer-past, answer-wrong, answer-on}
 use borrow.Author.Needs.{needs}
 use native.Mathlib.Omega.{arith}
 use native.Mathlib.Numerals.{add-one}
 use Rattle.conform.specs.Window.{Reached}
 use Rattle.conform.specs.Conformance.{answered}
-use Rattle.track.proofs.Laws.{offset-suc, bytes-at}
-use Rattle.track.specs.Track.{rowCount, offsetOf, bytesOf, trackOf}
+use Rattle.table.proofs.Laws.{offset-suc, bytes-at, in-table}
+use Rattle.table.specs.Table.{rowCount, offsetOf, bytesOf}
+use Rattle.track.specs.Track.{trackOf}
 use Rattle.wvtt_cues.specs.Cues.{sampleCues}
 use Rattle.cues.specs.List.{cuesOf}
 use Rattle.boxes.specs.Boxes.{part}

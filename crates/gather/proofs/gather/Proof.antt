@@ -2,8 +2,9 @@ use native.Mathlib.Numerals.{add-one}
 use Prim.Native.Nat.{ℕ, _+_, _-_, _*_, _≤_, _<_}
 use mathlib.Core.Path.{_≡_, refl, sym, ap, _∙_, subst}
 use lib.ListN.{length, drop}
-use Rattle.track.proofs.Laws.{offset-suc}
-use Rattle.track.specs.Track.{rowCount, offsetOf, trackOf}
+use Rattle.table.proofs.Laws.{offset-suc}
+use Rattle.table.specs.Table.{rowCount, offsetOf}
+use Rattle.track.specs.Track.{trackOf}
 use Rattle.timeline.specs.Unpacking.{unpack}
 use Rattle.timeline.proofs.Joined.{joined-is}
 use Rattle.track.proofs.Samples.{track-positive}

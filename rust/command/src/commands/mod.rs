@@ -1,6 +1,8 @@
 //! The commands.
 
 mod check;
+mod drop_zero_durations;
+mod from_3gpp;
 mod from_vtt;
 mod judge;
 mod pack;
@@ -23,7 +25,7 @@ pub struct Command {
     run: fn(&[OsString]) -> Result<(), Failure>,
 }
 
-const COMMANDS: [Command; 7] = [
+const COMMANDS: [Command; 9] = [
     pack::COMMAND,
     unpack::COMMAND,
     check::COMMAND,
@@ -31,6 +33,8 @@ const COMMANDS: [Command; 7] = [
     show::COMMAND,
     from_vtt::COMMAND,
     to_vtt::COMMAND,
+    from_3gpp::COMMAND,
+    drop_zero_durations::COMMAND,
 ];
 
 /// Runs the command that the first argument names.
@@ -74,7 +78,7 @@ fn named(command: &str, failure: Failure) -> Failure {
 fn help() -> String {
     let rows = COMMANDS
         .iter()
-        .map(|Command { name, summary, .. }| format!("  {name:9} {summary}\n"));
+        .map(|Command { name, summary, .. }| format!("  {name:19} {summary}\n"));
     format!(
         "captions COMMAND …: WebVTT and 3GPP captions as they stand in MP4 tracks\n\n{}\n{}",
         rows.collect::<String>(),

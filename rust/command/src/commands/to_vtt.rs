@@ -9,8 +9,8 @@ use super::pack::HEADER;
 use super::{warn, Command};
 use crate::args::Args;
 use crate::failure::Failure;
-use crate::files::{read_header, List, VTT_SCALE};
-use crate::output::{Outputs, STREAM};
+use crate::files::{is_vtt, read_header, List, VTT_SCALE};
+use crate::output::{say, Outputs, STREAM};
 use crate::shown::count;
 use crate::words;
 
@@ -50,6 +50,36 @@ fn run(raw: &[OsString]) -> Result<(), Failure> {
     match to == STREAM {
         true => outputs.commit(),
         false => outputs.report(&report),
+    }
+}
+
+/// Writes a list as a name says, as a WebVTT file or as records and pool, and tells what was done;
+/// on standard error, where the list goes to standard output.
+pub fn put_list(
+    list: List,
+    to: &OsStr,
+    header: Option<&OsStr>,
+    report: &str,
+) -> Result<(), Failure> {
+    let mut outputs = Outputs::default();
+    if is_vtt(to) {
+        outputs.add(to, vtt_file(&list, header)?)?;
+    } else {
+        list.stage(to, &mut outputs)?;
+    }
+    if to == STREAM {
+        outputs.commit()?;
+        say(report);
+        return Ok(());
+    }
+    outputs.report(&format!("{report}\n"))
+}
+
+/// Refuses a header for a list that is not written as a WebVTT file.
+pub fn need_vtt(to: &OsStr, header: Option<&OsStr>) -> Result<(), Failure> {
+    match header.is_some() && !is_vtt(to) {
+        true => Err(Failure::Usage("--header is for a WebVTT file".into())),
+        false => Ok(()),
     }
 }
 

@@ -4,12 +4,11 @@ use std::ffi::OsString;
 
 use captions::wvtt;
 
-use super::to_vtt::vtt_file;
+use super::to_vtt::{need_vtt, put_list};
 use super::Command;
 use crate::args::Args;
 use crate::failure::Failure;
-use crate::files::{is_vtt, List, TrackFiles};
-use crate::output::{say, Outputs, STREAM};
+use crate::files::{List, TrackFiles};
 use crate::shown::count;
 use crate::time::Clock;
 use crate::words;
@@ -44,9 +43,7 @@ fn run(raw: &[OsString]) -> Result<(), Failure> {
     let (from, to) = (args.operand("TRACK")?, args.operand("LIST")?);
     args.end()?;
     let (scale, header) = (args.need_scale()?, args.value("--header"));
-    if header.is_some() && !is_vtt(&to) {
-        return Err(Failure::Usage("--header is for a WebVTT file".into()));
-    }
+    need_vtt(&to, header)?;
     let track = TrackFiles::read(&from)?;
     let unpacked = wvtt::unpack_to_vecs(scale, &track.table, &track.samples);
     let refused = |refusal| words::unpacking(&track, scale, &refusal);
@@ -56,18 +53,10 @@ fn run(raw: &[OsString]) -> Result<(), Failure> {
         pool,
         header: None,
     };
-    let cues = count(list.len(), "cue");
-    let mut outputs = Outputs::default();
-    if is_vtt(&to) {
-        outputs.add(&to, vtt_file(&list, header)?)?;
-    } else {
-        list.stage(&to, &mut outputs)?;
-    }
-    let report = format!("{cues}, T {t} ms ({})", Clock(t.into()));
-    if to == STREAM {
-        outputs.commit()?;
-        say(&report);
-        return Ok(());
-    }
-    outputs.report(&format!("{report}\n"))
+    let report = format!(
+        "{}, T {t} ms ({})",
+        count(list.len(), "cue"),
+        Clock(t.into())
+    );
+    put_list(list, &to, header, &report)
 }

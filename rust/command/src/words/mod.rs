@@ -7,6 +7,7 @@ mod list;
 mod text;
 mod track;
 mod tx3g;
+mod tx3g_track;
 mod wvtt;
 
 use std::fmt::Display;
@@ -75,6 +76,23 @@ pub fn unpacking(track: &TrackFiles, scale: u32, refusal: &Refusal) -> Failure {
     refused(refusal, kind, what)
 }
 
+/// A track of 3GPP text that cannot be converted. The entry has bytes, the track samples.
+pub fn converting(entry: &[u8], track: &TrackFiles, scale: u32, fault: &Fault) -> Failure {
+    let refusal = &fault.refusal;
+    if fault.who == Who::Entry {
+        let what = tx3g::in_entry(entry, refusal);
+        return refused(refusal, "byte", format!("in the entry, {what}"));
+    }
+    let (kind, what) = tx3g_track::in_track(entry, track, scale, refusal);
+    refused(refusal, kind, what)
+}
+
+/// A table and samples from which none can be dropped.
+pub fn dropping(track: &TrackFiles, refusal: &Refusal) -> Failure {
+    let (kind, what) = track::in_table(track, refusal, |_| None);
+    refused(refusal, kind, what)
+}
+
 /// A list and a track that do not pass the check.
 pub fn check(list: &List, track: &TrackFiles, scale: u32, t: u32, fault: &Fault) -> Failure {
     match (fault.who, fault.reason()) {
@@ -108,7 +126,7 @@ pub fn writing(header: &[u8], list: &List, fault: &Fault) -> Failure {
 #[cfg(test)]
 mod tests {
     use super::*;
-    use captions::{judge_list, vtt, wvtt};
+    use captions::{drop_zero_durations_room, judge_list, tx3g, vtt, wvtt};
 
     const FILE: &[u8] =
         b"WEBVTT x\n\nNOTE a\nb\n\ni\n00:00.100 --> 00:01.000 line:1\na \xC3\xA9\nb\n\n\
@@ -211,5 +229,45 @@ mod tests {
         if let Err(fault) = wvtt::check(scale, t, records, pool, table, samples) {
             look(&check(list, track, scale, t, &fault), &fault.refusal);
         }
+    }
+
+    /// A sample with a style and a wrap flag, one without text, and one more, beside their entry.
+    const ENTRY: &[u8] = b"\0\0\0\x3Btx3g\0\0\0\0\0\0\0\x01\0\0\0\0\0\xFF\0\0\0\0\
+        \0\0\0\0\0\x3C\x01\x90\0\0\0\0\0\x01\0\x0C\xFF\xFF\xFF\xFF\0\0\0\x0Dftab\0\x01\0\x01\0";
+    const OLD_TABLE: &[u8] = b"\0\0\0\x28\0\0\0\x26\0\0\0\x03\0\0\0\x0E\0\0\0\x05\0\0\0\x04";
+    const OLD_SAMPLES: &[u8] =
+        b"\0\x05He&lo\0\0\0\x16styl\0\x01\0\0\0\x02\0\x01\x01\x0C\xFF\xFF\xFF\xFF\
+        \0\0\0\x09twrp\x01\0\0\0\0\0\x0Chlit\0\0\0\0\0\x02ab";
+
+    #[test]
+    fn every_refusal_of_an_old_track_is_told() {
+        let good = tx3g::convert_room(1000, ENTRY, OLD_TABLE, OLD_SAMPLES);
+        assert_eq!(good.map(|good| (good.cues, good.dropped.hlit)), Ok((2, 1)));
+        let mut random = Random(3);
+        let mut seen = 0;
+        for _ in 0..ROUNDS {
+            let mut entry = ENTRY.to_vec();
+            let mut track = TrackFiles {
+                table: OLD_TABLE.to_vec(),
+                samples: OLD_SAMPLES.to_vec(),
+            };
+            for _ in 0..=random.below(3) {
+                match random.below(8) {
+                    0 => random.damage(&mut entry),
+                    1..=3 => random.damage(&mut track.table),
+                    _ => random.damage(&mut track.samples),
+                }
+            }
+            let scale = [1000, 0, 1_000_000][random.below(40) / 19];
+            let (table, samples) = (&track.table, &track.samples);
+            if let Err(fault) = tx3g::convert_room(scale, &entry, table, samples) {
+                look(&converting(&entry, &track, scale, &fault), &fault.refusal);
+                seen += 1;
+            }
+            if let Err(refusal) = drop_zero_durations_room(table, samples) {
+                look(&dropping(&track, &refusal), &refusal);
+            }
+        }
+        assert!(seen > ROUNDS / 3, "{seen}");
     }
 }

@@ -15,6 +15,20 @@ use crate::time::Clock;
 
 /// The kind of a refusal's place in a track, and what is wrong there.
 pub fn in_track(track: &TrackFiles, refusal: &Refusal) -> (&'static str, String) {
+    in_table(track, refusal, |sample| {
+        let inner = judge_sample(sample).err()?;
+        let what = in_sample(sample, &inner);
+        Some(format!("at its byte {}, {what}", inner.place))
+    })
+}
+
+/// The kind of a refusal's place in a table and its samples, and what is wrong there; what is wrong
+/// inside a sample is told by `read`.
+pub fn in_table(
+    track: &TrackFiles,
+    refusal: &Refusal,
+    read: impl Fn(&[u8]) -> Option<String>,
+) -> (&'static str, String) {
     let rows = track.table.chunks_exact(ROW_BYTES);
     let left_over = rows.remainder().len();
     if left_over != 0 {
@@ -28,30 +42,59 @@ pub fn in_track(track: &TrackFiles, refusal: &Refusal) -> (&'static str, String)
             format!("the table has more than {MOST_SAMPLES} rows"),
         );
     }
-    let row = rows.clone().nth(refusal.place);
-    let before = rows.take(refusal.place).map(|row| u64::from(be32(row, 4)));
-    let from = before.sum::<u64>() as usize;
-    let what = row.map_or("bytes are left over behind the last sample".into(), |row| {
-        in_row(&track.samples, from, row, refusal)
-    });
+    let what = match row_at(track, refusal.place) {
+        None => "bytes are left over behind the last sample".into(),
+        Some(_) if refusal.reason == Reason::BadTime => "its duration is 0".into(),
+        Some(row) if row.size == 0 => "its size is 0".into(),
+        Some(row) => match row.bytes(track) {
+            None => {
+                let there = track.samples.len().saturating_sub(row.from);
+                let size = row.size;
+                format!("it has {size} bytes by the table, and {there} are there")
+            }
+            Some(sample) => read(sample).unwrap_or_else(|| refusal.reason.to_string()),
+        },
+    };
     ("sample", what)
 }
 
-/// What is wrong with the sample of a row, which begins at a byte of the samples.
-fn in_row(samples: &[u8], from: usize, row: &[u8], refusal: &Refusal) -> String {
-    let (duration, size) = (be32(row, 0), be32(row, 4));
-    if duration == 0 || size == 0 {
-        let what = if duration == 0 { "duration" } else { "size" };
-        return format!("its {what} is 0");
+/// A row of a table, and where its sample begins.
+pub struct Row {
+    pub duration: u32,
+    pub size: u32,
+    /// In ticks.
+    pub start: u64,
+    /// In bytes.
+    from: usize,
+}
+
+impl Row {
+    /// The bytes of the sample, if they are there.
+    pub fn bytes<'a>(&self, track: &'a TrackFiles) -> Option<&'a [u8]> {
+        track.samples.get(self.from..self.from + self.size as usize)
     }
-    let there = samples.len().saturating_sub(from);
-    let Some(sample) = samples.get(from..from + size as usize) else {
-        return format!("it has {size} bytes by the table, and {there} are there");
-    };
-    match judge_sample(sample) {
-        Err(inner) => format!("at its byte {}, {}", inner.place, in_sample(sample, &inner)),
-        Ok(()) => refusal.reason.to_string(),
-    }
+}
+
+/// The rows of a table.
+pub fn rows(track: &TrackFiles) -> impl Iterator<Item = Row> + '_ {
+    let (mut start, mut from) = (0, 0);
+    track.table.chunks_exact(ROW_BYTES).map(move |row| {
+        let (duration, size) = (be32(row, 0), be32(row, 4));
+        let row = Row {
+            duration,
+            size,
+            start,
+            from,
+        };
+        start += u64::from(duration);
+        from += size as usize;
+        row
+    })
+}
+
+/// A row of a table by its index.
+pub fn row_at(track: &TrackFiles, index: usize) -> Option<Row> {
+    rows(track).nth(index)
 }
 
 /// The kind of a refusal's place in unpacking, and what is wrong there.
@@ -187,34 +230,44 @@ pub fn changed_text(cue: &Cue, other: &Cue) -> &'static str {
 /// What is wrong with the times of a track that is unpacked: a record's, or T.
 fn in_unpacked_times(track: TrackRef, scale: u32, place: usize) -> (&'static str, String) {
     let past = Past::before(track, usize::MAX);
-    let ms = |tick| milliseconds(scale, tick).unwrap_or(u64::MAX);
-    let last = Clock(LARGEST_MS.into());
     let Some(seen) = past.cues.get(place) else {
-        let ticks = track.ticks();
-        let t = Clock(ms(ticks));
-        let what = match ticks {
-            0 => "the track has no samples".into(),
-            _ if ms(ticks) > u64::from(LARGEST_MS) => {
-                format!("the track lasts {t}; the largest time is {last}")
-            }
-            _ => format!("the track lasts {ticks} ticks; at most {} fit", u32::MAX),
-        };
-        return ("place", what);
+        return ("place", bad_end(scale, track.ticks()));
     };
-    let (start, end) = (ms(seen.start), ms(seen.end));
-    let id = seen.cue.id.unwrap_or(0);
-    let what = if start == end {
-        format!(
-            "the cue with ID {id} lasts from tick {} to {}, within one millisecond",
-            seen.start, seen.end
-        )
-    } else {
-        format!(
-            "the cue with ID {id} ends at {}; the largest time is {last}",
-            Clock(end)
-        )
-    };
-    ("record", what)
+    let whose = format!("the cue with ID {}", seen.cue.id.unwrap_or(0));
+    ("record", bad_cue_times(&whose, scale, seen.start, seen.end))
+}
+
+/// A tick in milliseconds.
+fn ms(scale: u32, tick: u64) -> u64 {
+    milliseconds(scale, tick).unwrap_or(u64::MAX)
+}
+
+/// What is wrong with a track that lasts so many ticks.
+pub fn bad_end(scale: u32, ticks: u64) -> String {
+    let (t, last) = (ms(scale, ticks), Clock(LARGEST_MS.into()));
+    match ticks {
+        0 => "the track has no samples".into(),
+        _ if t > u64::from(LARGEST_MS) => {
+            format!("the track lasts {}; the largest time is {last}", Clock(t))
+        }
+        _ => format!("the track lasts {ticks} ticks; at most {} fit", u32::MAX),
+    }
+}
+
+/// Whether a cue cannot last from a tick to another.
+pub fn has_bad_times(scale: u32, start: u64, end: u64) -> bool {
+    let end = ms(scale, end);
+    ms(scale, start) == end || end > u64::from(LARGEST_MS)
+}
+
+/// What is wrong with a cue that lasts from a tick to another.
+pub fn bad_cue_times(whose: &str, scale: u32, start: u64, end: u64) -> String {
+    let (last, end_ms) = (Clock(LARGEST_MS.into()), ms(scale, end));
+    if ms(scale, start) == end_ms {
+        return format!("{whose} lasts from tick {start} to {end}, within one millisecond");
+    }
+    let end = Clock(end_ms);
+    format!("{whose} ends at {end}; the largest time is {last}")
 }
 
 #[cfg(test)]

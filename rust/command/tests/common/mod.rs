@@ -22,6 +22,9 @@ pub const NOBODY: u32 = 65_534;
 /// The example file of the repository.
 pub const SAWS: &str = concat!(env!("CARGO_MANIFEST_DIR"), "/../../examples/vtt/saws.vtt");
 
+/// The foreign tracks of 3GPP text.
+const TRACKS: &str = concat!(env!("CARGO_MANIFEST_DIR"), "/../vectors/foreign/tx3g");
+
 /// A folder of its own, removed in the end.
 pub struct Folder(PathBuf);
 
@@ -62,6 +65,14 @@ impl Folder {
     pub fn put_list(&self, name: &str, list: &CueList) {
         self.put(format!("{name}.rec"), list.records());
         self.put(format!("{name}.pool"), list.pool());
+    }
+
+    /// Writes a foreign track of 3GPP text, as `old`.
+    pub fn put_old(&self, name: &str) {
+        for kind in ["entry", "table", "samples"] {
+            let path = format!("{TRACKS}/{name}/{kind}.bin");
+            self.put(format!("old.{kind}"), fs::read(path).expect("it is there"));
+        }
     }
 
     /// The names in it, sorted.

@@ -95,3 +95,32 @@ fn the_example_of_files_out_runs() {
     assert_eq!(output.stdout, b"refused 18 9\na STYLE or REGION block\n");
     assert_eq!(fs::read_dir(folder).map(Iterator::count).ok(), Some(0));
 }
+
+/// The file that the example writes of an old track is the one that the Rust crate writes.
+#[test]
+fn the_example_of_old_stock_runs() {
+    let (source, built) = (top().join("examples/c/stock.c"), program("stock"));
+    compile("cc", &["-std=c99"], &source, &built);
+    let words = &["1000000", "out.vtt"];
+    let (output, folder) = run_in_folder(&built, "examples/tx3g/stock", words);
+    assert_eq!(output.status.code(), Some(0));
+    assert_eq!(output.stdout, b"dropped 1 of 7 samples\n6 cues, 6000 ms\n");
+    let [entry, table, samples] = ["entry", "table", "samples"].map(|kind| {
+        let path = top().join(format!("examples/tx3g/stock.{kind}"));
+        fs::read(path).expect("the file is there")
+    });
+    let left = captions::drop_zero_durations_to_vecs(&table, &samples);
+    let (table, samples) = left.expect("the sizes fit");
+    let made = captions::tx3g::convert(1_000_000, &entry, &table, &samples);
+    let list = made.expect("the track is good").list;
+    let file = captions::vtt::write("WEBVTT", &list).expect("the list is good");
+    assert_eq!(fs::read(folder.join("out.vtt")).ok(), Some(file));
+    let (output, _) = run_in_folder(&built, "examples/tx3g/hot", words);
+    let told = b"dropped 1 of 2 samples\n1 cues, 1000 ms\nleft out: 1 hlit\nleft out: 1 hclr\n";
+    assert_eq!(output.stdout, told);
+    let (output, folder) = run_in_folder(&built, "examples/tx3g/hot", &["0", "out.vtt"]);
+    assert_eq!(output.status.code(), Some(1));
+    let refused = "track refused 10 0: scale, timeline or time not allowed\n";
+    assert!(output.stdout.ends_with(refused.as_bytes()));
+    assert_eq!(fs::read_dir(folder).map(Iterator::count).ok(), Some(0));
+}

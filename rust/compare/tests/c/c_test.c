@@ -45,6 +45,31 @@
     "\0\0\0\x16krok\0\0\1\0\0\1\0\0\2\0\0\1\0\5\0\0\0\x0c" "dlay\1\0\0\2\0\0\0\x13href\0\1\0\4\2uv\3abc"                                \
     "\0\0\0\x10tbox\xff\xff\xff\xfe\0\3\0\4\0\0\0\x09twrp\1"
 
+/* Samples that last no time among others that do. */
+#define ZEROS "\0\0\0\0\0\0\0\1" "\0\0\0\7\0\0\0\2" "\0\0\0\0\0\0\0\3" "\0\0\0\5\0\0\0\1"
+#define LASTING "\0\0\0\7\0\0\0\2" "\0\0\0\5\0\0\0\1"
+
+/* A track of twelve samples, nine of them with text, and of each kind of box that is left out another number. */
+#define TWRP "\0\0\0\x09twrp\0"
+#define TBOX "\0\0\0\x10tbox\0\0\0\0\0\0\0\0"
+#define DLAY "\0\0\0\x0c" "dlay\0\0\0\0"
+#define KROK "\0\0\0\x0ekrok\0\0\0\0\0\0"
+#define HLIT "\0\0\0\x0chlit\0\0\0\0"
+#define BLNK "\0\0\0\x0c" "blnk\0\0\0\0"
+#define HREF "\0\0\0\x0ehref\0\0\0\0\0\0"
+#define SEVEN(s) s s s s s s s
+#define OLD_TABLE                                                                                                                          \
+    "\0\0\1\0\0\0\0\x9c" "\0\0\0\1\0\0\0\x35" "\0\0\0\2\0\0\0\x29" "\0\0\0\3\0\0\0\x1f" "\0\0\0\4\0\0\0\xf1"                     \
+    SEVEN("\0\0\0\5\0\0\0\3")
+#define OLD_SAMPLES(text)                                                                                                                  \
+    TX3G_SAMPLE "\0\0" TWRP TBOX DLAY KROK "\0\2\r\n" TWRP TBOX DLAY "\0\4" text TWRP TBOX                                              \
+    "\0\0" TWRP HLIT HLIT HLIT HLIT HLIT BLNK BLNK BLNK BLNK BLNK BLNK SEVEN(HREF) SEVEN("\0\1x")
+#define OLD OLD_SAMPLES("a<\nb")
+#define BAD_OLD OLD_SAMPLES("a<\0b")
+#define OLD_POOL "<b>h</b><b>\xc3\xa9</b><b>l</b><b>l</b><b>o</b><b>a&lt;\nb</b>" SEVEN("<b>x</b>")
+/* The record of the fourth sample. */
+#define OLD_RECORD "\0\0\0\1\0\0\1\3\0\0\1\6\0\0\0\x29\0\0\0\0\0\x0e\0\0"
+
 static void refusal(const char *name, CaptionsRefusal r) { printf("%s %u %zu %zu", name, r.number, r.place, r.offset); }
 
 static void judged(const char *name, CaptionsRefusal r) {
@@ -87,6 +112,11 @@ static void packed(CaptionsPacked p) {
 static void unpacked(CaptionsUnpacked u) {
     refusal("unpack", u.refusal);
     printf(": %zu %zu %u\n", u.record_bytes, u.pool_bytes, u.t);
+}
+
+static void dropped(CaptionsDropped d) {
+    refusal("drop", d.refusal);
+    printf(": %zu %zu %zu\n", d.samples, d.table_bytes, d.sample_bytes);
 }
 
 static void vtt_read(CaptionsVttRead r) {
@@ -139,6 +169,12 @@ static void modifier(CaptionsModifier m) {
     refusal("modifier", m.refusal);
     printf(": %d %s %u %u %u %u %zu %zu %zu %zu %zu\n", m.found, kind, m.first, m.second, m.third, m.fourth, m.from, m.end,
            m.alternative_from, m.alternative_end, m.next);
+}
+
+static void converted(CaptionsTx3gConverted c) {
+    refusal("convert", c.refusal);
+    printf(": %u, %zu %zu %zu %u, %zu %zu %zu %zu %zu %zu %zu %zu\n", c.who, c.cues, c.record_bytes, c.pool_bytes, c.t, c.hlit,
+           c.retired_blinking, c.hclr, c.krok, c.dlay, c.href, c.tbox, c.twrp);
 }
 
 static void texts(void) {
@@ -253,6 +289,26 @@ static void unpacking(void) {
     printf("same %d %d %x %x\n", memcmp(records, RECORD, 24), memcmp(pool, "Hi", 2), records[24], pool[2]);
 }
 
+static void dropping(void) {
+    uint8_t table[24], samples[8];
+    memset(table, 0xa5, sizeof table);
+    memset(samples, 0xa5, sizeof samples);
+    dropped(captions_drop_zero_durations_room(TEXT(ZEROS), TEXT("abbcccd")));
+    dropped(captions_drop_zero_durations_room(TEXT(ZEROS "\0\0\0\0\0\0\0\0"), TEXT("abbcccd")));
+    dropped(captions_drop_zero_durations_room(TEXT(ZEROS), TEXT("abbccc")));
+    dropped(captions_drop_zero_durations_room(TEXT(ZEROS), TEXT("abbcccde")));
+    dropped(captions_drop_zero_durations_room(TEXT(ZEROS "\0"), NONE));
+    dropped(captions_drop_zero_durations_room(NONE, NONE));
+    dropped(captions_drop_zero_durations(TEXT(ZEROS), TEXT("abbccc"), table, sizeof table, samples, sizeof samples));
+    dropped(captions_drop_zero_durations(TEXT(ZEROS), TEXT("abbcccd"), table, 15, samples, sizeof samples));
+    dropped(captions_drop_zero_durations(TEXT(ZEROS), TEXT("abbcccd"), table, sizeof table, samples, 2));
+    dropped(captions_drop_zero_durations(TEXT(ZEROS), TEXT("abbcccd"), NONE, NONE));
+    dropped(captions_drop_zero_durations(NONE, NONE, NONE, NONE));
+    printf("untouched %x %x\n", table[0], samples[0]);
+    dropped(captions_drop_zero_durations(TEXT(ZEROS), TEXT("abbcccd"), table, sizeof table, samples, sizeof samples));
+    printf("same %d %d %x %x\n", memcmp(table, LASTING, 16), memcmp(samples, "bbd", 3), table[16], samples[3]);
+}
+
 static void vtt_files(void) {
     uint8_t records[72], pool[16];
     memset(records, 0xa5, sizeof records);
@@ -356,6 +412,28 @@ static void modifiers(void) {
     modifier(captions_tx3g_next_modifier(NONE, 0));
 }
 
+static void converting(void) {
+    uint8_t records[240], pool[128];
+    memset(records, 0xa5, sizeof records);
+    memset(pool, 0xa5, sizeof pool);
+    converted(captions_tx3g_convert_room(1000, TEXT(TX3G_ENTRY), TEXT(OLD_TABLE), TEXT(OLD)));
+    converted(captions_tx3g_convert_room(0, NONE, NONE, NONE));
+    converted(captions_tx3g_convert_room(1000, TEXT(TX3G_ENTRY "\0"), NONE, NONE));
+    converted(captions_tx3g_convert_room(1000, NONE, TEXT(OLD_TABLE), TEXT(OLD)));
+    converted(captions_tx3g_convert_room(1000, TEXT(TX3G_ENTRY), TEXT(OLD_TABLE), TEXT(OLD "\0")));
+    converted(captions_tx3g_convert_room(1000, TEXT(TX3G_ENTRY), TEXT("\0\0\0\1\0\0\0\5"), TEXT("\0\3ab\xff")));
+    converted(captions_tx3g_convert_room(1000, TEXT(TX3G_ENTRY), TEXT(ZEROS), TEXT("abbcccd")));
+    converted(captions_tx3g_convert_room(1000, TEXT(TX3G_ENTRY), NONE, NONE));
+    converted(captions_tx3g_convert(1000, TEXT(TX3G_ENTRY), TEXT(OLD_TABLE), TEXT(BAD_OLD), records, sizeof records, pool, sizeof pool));
+    converted(captions_tx3g_convert(1000, TEXT(TX3G_ENTRY), TEXT(OLD_TABLE), TEXT(OLD), records, 215, pool, sizeof pool));
+    converted(captions_tx3g_convert(1000, TEXT(TX3G_ENTRY), TEXT(OLD_TABLE), TEXT(OLD), records, sizeof records, pool, 110));
+    converted(captions_tx3g_convert(1000, TEXT(TX3G_ENTRY), TEXT(OLD_TABLE), TEXT(OLD), NONE, NONE));
+    converted(captions_tx3g_convert(1000, NONE, NONE, NONE, NONE, NONE));
+    printf("untouched %x %x\n", records[0], pool[0]);
+    converted(captions_tx3g_convert(1000, TEXT(TX3G_ENTRY), TEXT(OLD_TABLE), TEXT(OLD), records, sizeof records, pool, sizeof pool));
+    printf("same %d %d %x %x\n", memcmp(records + 24, OLD_RECORD, 24), memcmp(pool, OLD_POOL, 111), records[216], pool[111]);
+}
+
 int main(void) {
     printf("%s %d %d %d\n", CAPTIONS_VERSION, CAPTIONS_VERSION_MAJOR, CAPTIONS_VERSION_MINOR, CAPTIONS_VERSION_PATCH);
     printf("%s, %s, %s\n", captions_reason(CAPTIONS_DONE), captions_reason(CAPTIONS_MALFORMED), captions_reason(CAPTIONS_MALFORMED + 1));
@@ -366,6 +444,7 @@ int main(void) {
     lists_and_tracks();
     packing();
     unpacking();
+    dropping();
     checks();
     vtt_files();
     vtt_files_out();
@@ -373,5 +452,6 @@ int main(void) {
     tx3g_samples();
     runs();
     modifiers();
+    converting();
     return 0;
 }

@@ -36,7 +36,7 @@ fn assert_same(one: &Declared, other: &Declared) {
 fn rust_declares_what_the_header_does() {
     let (c, rust) = (header(&c_header()), rust(&read("rust/captions/src/ffi.rs")));
     assert_same(&c, &rust);
-    assert_eq!((c.structs.len(), c.functions.len()), (18, 32));
+    assert_eq!((c.structs.len(), c.functions.len()), (20, 36));
 }
 
 /// The sources of a Rattle crate.

@@ -39,6 +39,7 @@ fn in_rust() -> Vec<String> {
         CaptionsWritten { refusal bytes }
         CaptionsPacked { refusal samples table_bytes sample_bytes }
         CaptionsUnpacked { refusal record_bytes pool_bytes t }
+        CaptionsDropped { refusal samples table_bytes sample_bytes }
         CaptionsChecked { refusal who }
         CaptionsVttRead { refusal cues record_bytes pool_bytes }
         CaptionsVttWritten { refusal who bytes }
@@ -52,6 +53,9 @@ fn in_rust() -> Vec<String> {
         CaptionsStyle { refusal who start end font face size red green blue alpha }
         CaptionsRun { found styled from end font face size red green blue alpha styles styles_from }
         CaptionsTextBox { refusal who in_sample from top left bottom right }
+        CaptionsTx3gConverted {
+            refusal who cues record_bytes pool_bytes t hlit retired_blinking hclr krok dlay href tbox twrp
+        }
         CaptionsModifier { refusal found kind first second third fourth from end alternative_from alternative_end next }
     }
 }

@@ -20,10 +20,10 @@ pub struct Track {
 }
 
 /// A sample with its duration.
-type Timed = (u32, Vec<u8>);
+pub(super) type Timed = (u32, Vec<u8>);
 
 impl Track {
-    fn of(parts: &[Timed]) -> Self {
+    pub(super) fn of(parts: &[Timed]) -> Self {
         let mut track = Track::default();
         for (duration, sample) in parts {
             track.table.extend(duration.to_be_bytes());
@@ -271,7 +271,7 @@ fn spoil_part(random: &mut Random, boxes: &mut [Vec<u8>], at: usize) {
 }
 
 /// Changes bytes of table or samples.
-fn damaged(random: &mut Random, mut track: Track) -> Track {
+pub(super) fn damaged(random: &mut Random, mut track: Track) -> Track {
     match random.below(5) {
         0 => damage_bytes(random, &mut track.table),
         1 => damage_boxes(random, &mut track.samples),

@@ -21,7 +21,7 @@ pub fn tx3g_entry(random: &mut Random) -> Vec<u8> {
     entry
 }
 
-fn mostly_good_entry(random: &mut Random) -> Vec<u8> {
+pub(super) fn mostly_good_entry(random: &mut Random) -> Vec<u8> {
     let mut fonts = FONTS.to_vec();
     random.shuffle(&mut fonts);
     fonts.truncate(random.within(1, FONTS.len()));
@@ -163,6 +163,24 @@ fn modifier(random: &mut Random, kind: usize, count: usize, fonts: &[u16]) -> Ve
             };
             box_of(b"twrp", &[wrap])
         }
+    }
+}
+
+/// How many kinds [`other_modifier`] knows, and how many of them, the first, may stand twice.
+pub(super) const OTHER_MODIFIERS: usize = 8;
+pub(super) const REPEATED_MODIFIERS: usize = 3;
+
+/// A modifier other than `styl` that is good in every sample.
+pub(super) fn other_modifier(random: &mut Random, kind: usize) -> Vec<u8> {
+    match kind {
+        0 => box_of(b"hlit", &[0; 4]),
+        1 => box_of(b"blnk", &[0; 4]),
+        2 => box_of(b"href", b"\0\0\0\0\x03url\0"),
+        3 => box_of(b"hclr", &random.bytes(4)),
+        4 => box_of(b"krok", &[0; 6]),
+        5 => box_of(b"dlay", &random.bytes(4)),
+        6 => box_of(b"tbox", &[0; 8]),
+        _ => box_of(b"twrp", &[random.pick(&[0, 1])]),
     }
 }
 

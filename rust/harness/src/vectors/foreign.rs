@@ -12,14 +12,14 @@ use crate::library::Library;
 use crate::rows::{judged, number, tx3g_judged};
 
 /// A foreign track's files.
-struct Foreign {
-    entry: Vec<u8>,
-    table: Vec<u8>,
-    samples: Vec<u8>,
+pub(super) struct Foreign {
+    pub entry: Vec<u8>,
+    pub table: Vec<u8>,
+    pub samples: Vec<u8>,
 }
 
 impl Foreign {
-    fn read(dir: &Path) -> io::Result<Self> {
+    pub fn read(dir: &Path) -> io::Result<Self> {
         Ok(Foreign {
             entry: fs::read(dir.join("entry.bin"))?,
             table: fs::read(dir.join("table.bin"))?,

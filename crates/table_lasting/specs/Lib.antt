@@ -1,0 +1,4 @@
+pub mod Lasting
+pub mod Dropping
+pub mod Statements
+pub mod Copying

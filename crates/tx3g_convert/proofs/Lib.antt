@@ -1,0 +1,5 @@
+pub mod Zeros
+pub mod Judging
+pub mod States
+pub mod Rooms
+pub mod Writing

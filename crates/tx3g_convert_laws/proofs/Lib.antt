@@ -1,0 +1,4 @@
+pub mod Samples
+pub mod Fine
+pub mod Payloads
+pub mod Counting

@@ -1,0 +1,7 @@
+pub mod Weave
+pub mod Bytes
+pub mod Tidy
+pub mod Back
+pub mod Rule
+pub mod Points
+pub mod Longest

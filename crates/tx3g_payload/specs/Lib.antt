@@ -1,0 +1,4 @@
+pub mod Points
+pub mod Left
+pub mod Payload
+pub mod Statements

@@ -1,0 +1,9 @@
+pub mod Characters
+pub mod Breaks
+pub mod Stores
+pub mod Tags
+pub mod Walks
+pub mod Texts
+pub mod Onward
+pub mod Plain
+pub mod Runs

@@ -1,0 +1,9 @@
+pub mod Marks
+pub mod Standing
+pub mod Staying
+pub mod Places
+pub mod Escapes
+pub mod Samples
+pub mod Reaching
+pub mod Measuring
+pub mod Parts
