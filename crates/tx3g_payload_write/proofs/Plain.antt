@@ -8,14 +8,14 @@ use native.Mathlib.Omega.{arith}
 use native.Mathlib.Nat.{add-zero}
 use lib.Bits.{bitOr}
 use lib.Dec.{eqb, leb}
-use lib.ListN.{length, take, drop, getD, set, length-drop, length-append, take-append-drop}
-use lib.Seq.{drop-cons, drop-drop, getD-drop, drop-at, length-take-le}
+use lib.ListN.{length, take, drop, getD, length-drop, length-append, take-append-drop}
+use lib.Seq.{drop-drop, getD-drop, drop-at, length-take-le}
 use borrow.Author.Tests.{leb-true, eqb-false, not-true, eq-eqb, lt-ltb, ne-eqb}
 use Rattle.base.specs.Choice.{both, within}
 use Rattle.base.specs.Over.{wrote}
 use Rattle.base.specs.Iter.{iter}
 use Rattle.base.proofs.Choice.{both-left, both-right, either}
-use Rattle.base.proofs.Over.{in-two, sets-wrote, length-wrote}
+use Rattle.base.proofs.Over.{in-two, length-wrote}
 use Rattle.utf8.proofs.Ranges.{below}
 use Rattle.ascii.specs.Ascii.{all}
 use Rattle.ascii.proofs.Blocks.{or-none}
@@ -30,6 +30,7 @@ use Rattle.tx3g_payload_write.specs.declared.Walk.{Walk}
 use Rattle.tx3g_payload_write.specs.Terms.{pointsBy, Spelled, CharacterAt, leftsOf, afterOf, leftIs, given, opens, addedBy, shownBy, plain, PlainAhead, addedAll, shownAll, Stepped}
 use Rattle.tx3g_payload_write.proofs.Breaks.{stays}
 use Rattle.tx3g_payload_write.proofs.Characters.{form-1}
+use Rattle.boxes.specs.Boxes.{part}
 use Rattle.tx3g_payload_write.proofs.Stores.{escape-none}
 
 -- ---- one byte
@@ -125,10 +126,15 @@ shown-plain : (shown : Bool) (xs : List ℕ) → 0 < length xs → true ≡ show
 shown-plain shown [] l = absurd (omega arith)
 shown-plain shown (b ∷ xs) l = refl
 
+-- a part of the text, by its length
+part-take : (s : List ℕ) (at n : ℕ) → part s at (at + n) ≡ take n (drop at s)
+unfolding part
+part-take s at n = let z : at + n - at ≡ n = omega arith in rw z
+
 module _ (s : List ℕ) (face : ℕ) (w : Walk) (old mid new : List ℕ) (n begun : ℕ) where
   pub stepped-plain : 0 < n → PlainAhead s false (w .at) (w .left) n → Spelled false (drop (w .at) s) → w .bytes ≤ 4095 → length old ≡ 4128
       → (begun ≡ w .bytes + length (given (not (w .shown)) (opens face))) × (begun ≤ w .bytes + 9) × (mid ≡ wrote old (w .bytes) (given (not (w .shown)) (opens face)))
-      → n ≤ 8 → new ≡ wrote mid begun (take n (drop (w .at) s))
+      → n ≤ 8 → new ≡ wrote mid begun (part s (w .at) (w .at + n))
       → Stepped s false face w old new (record { at = w .at + n; left = w .left - n; after = false; bytes = begun + n; shown = true })
   stepped-plain some p spell b lent q eight e =
       let t : List ℕ = drop (w .at) s in
@@ -156,7 +162,7 @@ module _ (s : List ℕ) (face : ℕ) (w : Walk) (old mid new : List ℕ) (n begu
         shown-is = shown-plain (w .shown) xs (omega (arith, some, lx)) ∙ ap (shownAll (w .shown)) (sym lefts);
         bytes-are = omega (arith, q .0, ap length added, z, lx);
         most = omega (arith, q .1, eight);
-        stands = in-two old mid new tags xs (w .bytes) begun (q .2) e (q .0) (omega (arith, q .1, b, lent)) ∙ ap (wrote old (w .bytes)) (sym added);
+        stands = in-two old mid new tags xs (w .bytes) begun (q .2) (e ∙ ap (wrote mid begun) (part-take s (w .at) n)) (q .0) (omega (arith, q .1, b, lent)) ∙ ap (wrote old (w .bytes)) (sym added);
       }
 
 -- ---- a step over one character
@@ -202,12 +208,10 @@ pub mark-is : (b x y z w : ℕ) → eqb x 0 ≡ within 0x20 0x7F b → eqb y 0 �
 unfolding plain
 mark-is b x y z w ex ey ez ew = simp (or-none, ex, ey, ez, ew)
 
--- eight bytes are plain, if their tests joined are 0
-pub plain-eight : (s : List ℕ) (i a b c d e f g h : ℕ) → eqb a 0 ≡ plain (getD s i 0) → eqb b 0 ≡ plain (getD s (i + 1) 0) → eqb c 0 ≡ plain (getD s (i + 2) 0)
-    → eqb d 0 ≡ plain (getD s (i + 3) 0) → eqb e 0 ≡ plain (getD s (i + 4) 0) → eqb f 0 ≡ plain (getD s (i + 5) 0) → eqb g 0 ≡ plain (getD s (i + 6) 0)
-    → eqb h 0 ≡ plain (getD s (i + 7) 0) → eqb (bitOr (bitOr (bitOr (bitOr (bitOr (bitOr (bitOr a b) c) d) e) f) g) h) 0 ≡ all plain s i 8
+-- one byte more is plain
+pub plain-next : (s : List ℕ) (i k x y : ℕ) → eqb x 0 ≡ all plain s i k → eqb y 0 ≡ plain (getD s (i + k) 0) → eqb (bitOr x y) 0 ≡ all plain s i (suc k)
 unfolding all iter
-plain-eight s i a b c d e f g h ea eb ec ed ee ef eg eh = simp (or-none, ea, eb, ec, ed, ee, ef, eg, eh, add-zero)
+plain-next s i k x y e f = or-none x y ∙ ap₂ both e f
 
 -- each of them
 pub all-at : (s : List ℕ) (i n k : ℕ) → all plain s i n ≡ true → k < n → plain (getD s (i + k) 0) ≡ true
@@ -235,19 +239,12 @@ ahead-one s u at left m h l f e z =
 pub ahead-eight : (s : List ℕ) (u : Bool) (at left : ℕ) → at + 8 ≤ length s → 8 ≤ left → u ≡ false → all plain s at 8 ≡ true → PlainAhead s u at left 8
 ahead-eight s u at left h l f a = record { few = l; inside = h; bytes-so = λ y. (f, inl refl); plain-so = λ k y. all-at s at 8 k a y }
 
--- eight, or else one
-pub ahead-is-eight : (s : List ℕ) (u : Bool) (at left n : ℕ) → PlainAhead s u at left n → n ≡ 8 → PlainAhead s u at left 8
-ahead-is-eight s u at left n p e = subst (PlainAhead s u at left) e p
-
-pub ahead-is-one : (s : List ℕ) (u : Bool) (at left n : ℕ) → PlainAhead s u at left n → 0 < n → ¬ (n ≡ 8) → PlainAhead s u at left 1
-ahead-is-one s u at left n p l e = go (p .bytes-so l .1)
+pub ahead-few : (s : List ℕ) (u : Bool) (at left n : ℕ) → PlainAhead s u at left n → 0 < n → n ≤ 8
+ahead-few s u at left n p l = go (p .bytes-so l .1)
   where
-    go : (n ≡ 8) ⊎ (n ≡ 1) → PlainAhead s u at left 1
-    go (inl z) = absurd (e z)
-    go (inr z) = subst (PlainAhead s u at left) z p
-
-pub one-wrote : (d s : List ℕ) (at from : ℕ) → from < length s → at + 1 ≤ length d → set d at (getD s from 0) ≡ wrote d at (take 1 (drop from s))
-one-wrote d s at from h l = sets-wrote d at (getD s from 0 ∷ []) l ∙ ap (wrote d at) (sym (ap (take 1) (drop-cons s from 0 h)))
+    go : (n ≡ 8) ⊎ (n ≡ 1) → n ≤ 8
+    go (inl z) = omega arith
+    go (inr z) = omega arith
 
 pub ahead-bytes : (s : List ℕ) (u : Bool) (at left n : ℕ) → PlainAhead s u at left n → ¬ (n ≡ 0) → u ≡ false
 ahead-bytes s u at left n p e = p .bytes-so (omega arith) .0
@@ -258,6 +255,6 @@ ahead-by s u v at left n e p = subst (λ (x : Bool). PlainAhead s x at left n) e
 pub stepped-by : (s : List ℕ) (u v : Bool) (face : ℕ) (w : Walk) (old new : List ℕ) (r : Walk) → u ≡ v → Stepped s v face w old new r → Stepped s u face w old new r
 stepped-by s u v face w old new r e t = subst (λ (x : Bool). Stepped s x face w old new r) (sym e) t
 
--- behind the tags there is room for a byte
-pub begin-room : (old mid tags : List ℕ) (at begun : ℕ) → (begun ≡ at + length tags) × (begun ≤ at + 9) × (mid ≡ wrote old at tags) → at ≤ 4095 → length old ≡ 4128 → begun + 1 ≤ length mid
+-- behind the tags there is room for eight bytes
+pub begin-room : (old mid tags : List ℕ) (at begun : ℕ) → (begun ≡ at + length tags) × (begun ≤ at + 9) × (mid ≡ wrote old at tags) → at ≤ 4095 → length old ≡ 4128 → begun + 8 ≤ length mid
 begin-room old mid tags at begun q l e = omega (arith, q .0, q .1, l, e, ap length (q .2), length-wrote old at tags (omega (arith, q .0, q .1, l, e)))

@@ -7,11 +7,12 @@ use tx3g_read::find_styles;
 use tx3g_read::find_text;
 use tx3g_runs::Run;
 use tx3g_runs::next_run;
+use wvtt_write::copy_run;
 ghost use mathlib.Core.Path.{_≡_};
 ghost use mathlib.Core.Bool.{true, false, not};
 ghost use mathlib.Core.List.{[], _∷_, _++_};
 ghost use Prim.Native.Nat.{_+_, _≤_, _<_};
-ghost use lib.ListN.{length, take, drop, getD};
+ghost use lib.ListN.{length, drop, getD};
 ghost use lib.Dec.{eqb};
 ghost use Rattle.base.specs.Choice.{within};
 ghost use Rattle.base.specs.Over.{wrote};
@@ -380,14 +381,12 @@ fn is_plain8(text: &[u8], at: usize) -> bool
     requires { ⌜ at + 8 ≤ length (now text) ⌝ }
     ensures { λ r. ⌜ r ≡ all plain (now (text .entry)) at 8 ⌝ }
 {
-    let x = mark_of(text[at])
-        | mark_of(text[at + 1])
-        | mark_of(text[at + 2])
-        | mark_of(text[at + 3])
-        | mark_of(text[at + 4])
-        | mark_of(text[at + 5])
-        | mark_of(text[at + 6])
-        | mark_of(text[at + 7]);
+    let mut x = 0;
+    let mut k = 0;
+    while k < 8 {
+        x = x | mark_of(text[at + k]);
+        k += 1;
+    }
     x == 0
 }
 
@@ -414,29 +413,6 @@ fn plain_ahead(text: &[u8], utf16: bool, at: usize, left: usize) -> usize
     1
 }
 
-// Eight bytes of the text.
-fn put_eight(out: &mut [u8], at: usize, text: &[u8], from: usize)
-    requires { ⌜ (at + 8 ≤ length (now out)) × (from + 8 ≤ length (now text)) ⌝ }
-    ensures { λ _. ⌜ now (out .exit) ≡ wrote (now (out .entry)) at (take 8 (drop from (now (text .entry)))) ⌝ }
-{
-    let a = text[from];
-    let b = text[from + 1];
-    let c = text[from + 2];
-    let d = text[from + 3];
-    let e = text[from + 4];
-    let f = text[from + 5];
-    let g = text[from + 6];
-    let h = text[from + 7];
-    out[at] = a;
-    out[at + 1] = b;
-    out[at + 2] = c;
-    out[at + 3] = d;
-    out[at + 4] = e;
-    out[at + 5] = f;
-    out[at + 6] = g;
-    out[at + 7] = h;
-}
-
 // The tags of a face, if they are not yet there.
 fn put_begin(out: &mut [u8], at: usize, shown: bool, face: u32) -> usize
     requires { ⌜ at + 9 ≤ length (now out) ⌝ }
@@ -455,22 +431,12 @@ fn put_plain(text: &[u8], face: u32, n: usize, w: Walk, out: &mut [u8]) -> Walk
 {
     let at = w.at;
     let begun = put_begin(&mut *out, w.bytes, w.shown, face);
-    if n == 8 {
-        put_eight(&mut *out, begun, text, at);
-        return Walk {
-            at: at + 8,
-            left: w.left - 8,
-            after: false,
-            bytes: begun + 8,
-            shown: true,
-        };
-    }
-    out[begun] = text[at];
+    copy_run(&mut *out, begun, text, at, n);
     Walk {
-        at: at + 1,
-        left: w.left - 1,
+        at: at + n,
+        left: w.left - n,
         after: false,
-        bytes: begun + 1,
+        bytes: begun + n,
         shown: true,
     }
 }
