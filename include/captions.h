@@ -25,25 +25,26 @@ extern "C" {
 /* The numbers given back; captions_reason says each in a few words. */
 enum {
     CAPTIONS_DONE = 0,
-    CAPTIONS_BYTES_MISSING = 1, /* header, body, record, texts past the pool, sample past the bytes */
-    CAPTIONS_BAD_SIZE = 2,      /* box size below 8, body longer than its kind, bytes left over, another entry type */
+    CAPTIONS_BYTES_MISSING = 1,   /* header, body, record, texts past the pool, sample past the bytes */
+    CAPTIONS_BAD_SIZE = 2,        /* box size below 8, body longer than its kind, bytes left over, another entry type */
     CAPTIONS_KIND_TWICE = 3,
-    CAPTIONS_BOX_MISSING = 4,   /* payl, vttC, ftab or every cue; a sample of size 0 */
-    CAPTIONS_NOT_ALONE = 5,     /* vtte beside vttc, or a second vtte */
-    CAPTIONS_BAD_TEXT = 6,      /* the offset says where */
-    CAPTIONS_BAD_RANGE = 7,     /* range, box or style order; k past the text */
-    CAPTIONS_BAD_VALUE = 8,     /* ID, font, justification, wrap, reserved bytes */
+    CAPTIONS_BOX_MISSING = 4,     /* payl, vttC, ftab or every cue; a sample of size 0 */
+    CAPTIONS_NOT_ALONE = 5,       /* vtte beside vttc, or a second vtte */
+    CAPTIONS_BAD_TEXT = 6,        /* the offset says where */
+    CAPTIONS_BAD_RANGE = 7,       /* range, box or style order; k past the text */
+    CAPTIONS_BAD_VALUE = 8,       /* ID, font, justification, wrap, reserved bytes */
     CAPTIONS_PAST_LIMIT = 9,
-    CAPTIONS_BAD_TIME = 10,     /* scale, timeline or time; zero duration */
-    CAPTIONS_BAD_ORDER = 11,    /* starts fall; cues in a sample not in order of first appearance */
-    CAPTIONS_ID_TWICE = 12,     /* in a list or a sample */
+    CAPTIONS_BAD_TIME = 10,       /* scale, timeline or time; zero duration */
+    CAPTIONS_BAD_ORDER = 11,      /* starts fall; cues in a sample not in order of first appearance */
+    CAPTIONS_ID_TWICE = 12,       /* in a list or a sample */
     CAPTIONS_ID_AFTER_GAP = 13,
-    CAPTIONS_OTHER_TEXTS = 14,  /* one ID, other texts */
-    CAPTIONS_NO_ROOM = 15,      /* output too short for the whole result */
-    CAPTIONS_DIFFERS = 16,      /* the track differs */
-    CAPTIONS_NO_ID = 17,        /* a cue without ID, in unpacking */
-    CAPTIONS_STYLE_BLOCK = 18,  /* a STYLE or REGION block of a file */
-    CAPTIONS_MALFORMED = 19     /* a line or block of a file that may not stand there */
+    CAPTIONS_OTHER_TEXTS = 14,    /* one ID, other texts */
+    CAPTIONS_NO_ROOM = 15,        /* output too short for the whole result */
+    CAPTIONS_DIFFERS = 16,        /* the track differs */
+    CAPTIONS_NO_ID = 17,          /* a cue without ID, in unpacking */
+    CAPTIONS_STYLE_BLOCK = 18,    /* a STYLE or REGION block of a file */
+    CAPTIONS_MALFORMED = 19,      /* a line or block of a file that may not stand there */
+    CAPTIONS_OUTSIDE_PROFILE = 21 /* a payload outside the tag profile; the place says where */
 };
 
 /* Limits (docs/FORMATS.md). */
@@ -57,8 +58,8 @@ enum {
 #define CAPTIONS_LARGEST_SCALE 1000000  /* ticks a second */
 #define CAPTIONS_LARGEST_MS 359999999   /* 99:59:59.999 */
 
-/* Why and where. Number 0 says that nothing is wrong. The place is a byte of a sample or an entry, the index of a record or a
-   sample, or the line of a file.
+/* Why and where. Number 0 says that nothing is wrong. The place is a byte of a sample or an entry, or of a payload beside 21, the index of a
+   record or a sample, or the line of a file.
    The offset says where a text is bad, counted from the text's start: at the first byte after which no continuation could be right, or at
    the text's length where it ends too early. Beside every number but 6 the offset is 0.
    Where to look for 6: in a sample or an entry at byte place + 8 + offset, behind the header of the box at the place; in a tx3g sample at byte
@@ -104,6 +105,8 @@ static inline const char *captions_reason(uint32_t number) {
         "a cue without ID",
         "a STYLE or REGION block",
         "a malformed line or block",
+        "unknown",
+        "a payload outside the tag profile",
     };
     return number < sizeof reasons / sizeof *reasons ? reasons[number] : "unknown";
 }
@@ -136,6 +139,12 @@ CaptionsRefusal captions_wvtt_judge_identifier(const uint8_t *text, size_t text_
 CaptionsRefusal captions_wvtt_judge_payload(const uint8_t *text, size_t text_len);
 CaptionsRefusal captions_wvtt_judge_configuration(const uint8_t *text, size_t text_len);
 CaptionsRefusal captions_wvtt_judge_label(const uint8_t *text, size_t text_len);
+
+/* A payload by the tag profile: the tags b, i, u, c, v, lang and ruby, and rt directly inside ruby, each with its own end tag and at most 16 open
+   at once; classes on any of them, an annotation on v and lang; timestamps hh:mm:ss.mmm that rise; of escapes &amp; &lt; &gt; &nbsp; &lrm; &rlm;.
+   Refused: 9, place 0, for more than 4,095 bytes; 6, place 0, as by captions_wvtt_judge_payload; 21, whose place is the first byte that no text of
+   the profile could have there, or the length of a text that ends too early. */
+CaptionsRefusal captions_wvtt_judge_profile(const uint8_t *text, size_t text_len);
 
 /* A WebVTT sample; the place is a byte of it. */
 CaptionsRefusal captions_wvtt_judge_sample(const uint8_t *sample, size_t sample_len);

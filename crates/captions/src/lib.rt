@@ -40,6 +40,7 @@ ghost use Rattle.characters.specs.Characters.{charactersOf};
 ghost use Rattle.boxes.specs.Boxes.{stepAt, boxesIn};
 ghost use Rattle.times.specs.Times.{tick};
 ghost use Rattle.wvtt.specs.Sample.{judgeSample};
+ghost use Rattle.profile_judge.specs.Judgement.{judgeProfile};
 ghost use Rattle.wvtt_cues.specs.Cues.{nextCue};
 ghost use Rattle.wvtt_entry.specs.Reading.{readEntry as readWvttEntry};
 ghost use Rattle.wvtt_entry_write.specs.Writing.{labelOf, entryBytes, roomOf, writtenOf, after as writtenAfter};
@@ -1010,6 +1011,13 @@ pub extern "C" fn captions_wvtt_judge_payload(text: &[u8]) -> Refusal
     ensures { λ r. ⌜ r ≡ flatText payloadText payloadBegun (now (text .entry)) ⌝ }
 {
     flat_text(text::judge_payload(text))
+}
+
+#[no_mangle]
+pub extern "C" fn captions_wvtt_judge_profile(text: &[u8]) -> Refusal
+    ensures { λ r. ⌜ r ≡ flatVerdict (judgeProfile (now (text .entry))) ⌝ }
+{
+    flat_verdict(profile_judge::judge_profile(text))
 }
 
 #[no_mangle]

@@ -91,7 +91,9 @@ use Rattle.tx3g_convert.specs.declared.Converted.{Converted}
 use Rattle.tx3g_convert.specs.declared.Converted.the-variants.{NoRoom as NoRoomLeft}
 use Rattle.tx3g_convert.specs.Convert.{Told, toldOf, hasText, counting, stockCues, stockMs, judgeTold, judgeTolds, judgeCues, byEntry, byTrack, doneWith as doneConversion, convertRoom, roomed as roomedStock, convertOf}
 use Rattle.tx3g_convert_laws.proofs.Samples.{noTold, length-told, told-at}
-use Rattle.demands.specs.Offsets.{bodyAt, Inside, InSample, InEntry, InWritten, InConfiguration, InTexts, InRecord, InFile, InTrack, InText, InTx3g, InStock, Never}
+use Rattle.profile.specs.Machine.{judge}
+use Rattle.profile_judge.specs.Judgement.{outside, judgeProfile}
+use Rattle.demands.specs.Offsets.{bodyAt, Inside, InSample, InEntry, InWritten, InConfiguration, InPayload, InTexts, InRecord, InFile, InTrack, InText, InTx3g, InStock, Never}
 use Rattle.demands.specs.Refusals.{InTable, Listed, CheckListed, WriteListed, ConvertListed, dropping, packing, unpacking, reading, writing, ofBox, ofCue, ofModifier, RefusalsAre}
 use Rattle.demands.proofs.Offsets.{offsets-are}
 
@@ -99,15 +101,18 @@ use Rattle.demands.proofs.Offsets.{offsets-are}
 
 -- a number of the table other than 6
 abbrev other : ℕ → Bool
-other n = both (both (leb 1 n) (leb n 19)) (not (eqb n 6))
+other n = both (both (leb 1 n) (leb n 21)) (both (not (eqb n 20)) (not (eqb n 6)))
 
 in-table : (n : ℕ) → other n ≡ true → InTable n
 in-table n h =
-    let w = both-left (both (leb 1 n) (leb n 19)) (not (eqb n 6)) h in
-    (leb-true 1 n (both-left (leb 1 n) (leb n 19) w), leb-true n 19 (both-right (leb 1 n) (leb n 19) w))
+    let w = both-left (both (leb 1 n) (leb n 21)) (both (not (eqb n 20)) (not (eqb n 6))) h in
+    let v = both-right (both (leb 1 n) (leb n 21)) (both (not (eqb n 20)) (not (eqb n 6))) h in
+    (leb-true 1 n (both-left (leb 1 n) (leb n 21) w), leb-true n 21 (both-right (leb 1 n) (leb n 21) w), eqb-false n 20 (not-true (eqb n 20) (both-left (not (eqb n 20)) (not (eqb n 6)) v)))
 
 not-six : (n : ℕ) → other n ≡ true → n ≢ 6
-not-six n h = eqb-false n 6 (not-true (eqb n 6) (both-right (both (leb 1 n) (leb n 19)) (not (eqb n 6)) h))
+not-six n h =
+    let v = both-right (both (leb 1 n) (leb n 21)) (both (not (eqb n 20)) (not (eqb n 6))) h in
+    eqb-false n 6 (not-true (eqb n 6) (both-right (not (eqb n 20)) (not (eqb n 6)) v))
 
 allOther : List ℕ → Bool
 allOther [] = true
@@ -152,7 +157,7 @@ module _ (Says : ℕ → ℕ → Type 0) where
   judged-text : (p : ℕ) (j : Judged) → ((q : ℕ) → j ≡ BadAt q → Says p q) → Listed Says (textAt p j)
   unfolding badText
   judged-text p Right f = tt
-  judged-text p (BadAt q) f = ((omega arith, omega arith), λ z. absurd (z refl), λ z. f q refl)
+  judged-text p (BadAt q) f = ((omega arith, omega arith, λ z. omega arith), λ z. absurd (z refl), λ z. f q refl)
 
   text-at-listed : (keeps begun : List ℕ → Bool) → JudgedIs keeps begun → (p : ℕ) (s : List ℕ) → ((q : ℕ) → FirstBad (Passes keeps) s q → Says p q) → Listed Says (textAt p (judgedBy keeps begun s))
   text-at-listed keeps begun is p s f = judged-text p (judgedBy keeps begun s) (λ q e. f q (is s .1 q .0 e))
@@ -409,7 +414,7 @@ count-listed s = go (judgedBy tx3gText tx3gBegun s) refl
   where
     go : (j : Judged) → judgedBy tx3gText tx3gBegun s ≡ j → Listed (InText s) (countedAt 0 (countBy j (characterCount s)))
     go Right e = tt
-    go (BadAt q) e = ((omega arith, omega arith), λ z. absurd (z refl), λ z. (refl, offsets-are .tx3g s .1 q .0 e))
+    go (BadAt q) e = ((omega arith, omega arith, λ z. omega arith), λ z. absurd (z refl), λ z. (refl, offsets-are .tx3g s .1 q .0 e))
 
 -- ---- WebVTT
 
@@ -449,6 +454,17 @@ unfolding judgeCue inCue
 cue-listed s p b n m =
     judged-listed (InSample s) s (inCue s) (endCue p) (λ before q k f e l. more (InSample s) (both (single k) (among k before)) 3 q _ refl (body-listed s q k f e l))
     (λ kinds. given (InSample s) (not (among payl kinds)) 4 p refl) [] (boxesIn s b n) (standing s b n m) (boxes-listed (InSample s) s b n)
+
+profile-listed : (s : List ℕ) → Listed (InPayload s) (judgeProfile s)
+unfolding judgeProfile
+profile-listed s =
+    more (InPayload s) (ltb 4095 (length s)) 9 0 _ refl
+    (next (InPayload s) (textAt 0 (judgedBy payloadText payloadBegun s)) _
+    (text-at-listed (InPayload s) payloadText payloadBegun (offsets-are .payload) 0 s (λ q f. (refl, f))) (last (judge s)))
+  where
+    last : (j : Judged) → Listed (InPayload s) (outside j)
+    last Right = tt
+    last (BadAt q) = given (InPayload s) true 21 q refl
 
 sample-listed : (s : List ℕ) → Listed (InSample s) (judgeSample s)
 unfolding judgeSample inSample AtBox
@@ -780,6 +796,7 @@ pub refusals-are : RefusalsAre
 refusals-are = record {
   count = count-listed;
   step = step-listed Never;
+  profile = profile-listed;
   sample = sample-listed;
   cue = λ s from. next-cue-listed Never s (boxesIn s from (length s)) (boxes-listed Never s from (length s));
   entry = entry-listed;

@@ -67,17 +67,17 @@ module _ (scale : ℕ) (entry table samples records pool recordsAfter poolAfter 
   abbrev cues : List Cue
   cues = stockCues entry table samples
 
-  room-is : convertRoom scale entry table samples ≡ Done n r p T c
+  pub room-is : convertRoom scale entry table samples ≡ Done n r p T c
   unfolding convertOf
   room-is = room-done (length records) (length pool) (convertRoom scale entry table samples) n r p T c (sym (call .answers))
 
   so : DoneSo scale entry table samples n r p T c
   so = done-so scale entry table samples n r p T c room-is
 
-  records-are : take r recordsAfter ≡ recordsOf scale cues
+  pub records-are : take r recordsAfter ≡ recordsOf scale cues
   records-are = ap (take r) (call .records-hold) ∙ take-over (recordsOf scale cues) records r (so .records)
 
-  pool-is : take p poolAfter ≡ poolOf cues
+  pub pool-is : take p poolAfter ≡ poolOf cues
   pool-is = ap (take p) (call .pool-holds) ∙ take-over (poolOf cues) pool p (so .pool)
 
   kept : (drop r recordsAfter ≡ drop r records) × (drop p poolAfter ≡ drop p pool)

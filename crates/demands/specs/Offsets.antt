@@ -70,6 +70,10 @@ InWritten c l p q =
 abbrev pub InConfiguration : List ℕ → ℕ → ℕ → Type 0
 InConfiguration c p q = (p ≡ 0) × FirstBad (Passes configurationText) c q
 
+-- of a payload by itself
+abbrev pub InPayload : List ℕ → ℕ → ℕ → Type 0
+InPayload s p q = (p ≡ 0) × FirstBad (Passes payloadText) s q
+
 -- q is the first bad byte of the first bad one of a cue's texts
 abbrev pub InTexts : List ℕ → List ℕ → List ℕ → ℕ → Type 0
 InTexts identifier settings payload q =

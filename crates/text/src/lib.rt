@@ -15,7 +15,7 @@ ghost use Rattle.ascii.specs.Ascii.{unmarked, all};
 ghost use Rattle.viable.specs.FirstBad.{judgedBy};
 ghost use Rattle.utf8.specs.Utf8.{utf8, utf8Begun};
 ghost use Rattle.utf8.specs.Forbidden.{keeps, keepsBegun};
-ghost use Rattle.utf8.specs.Strings.{beginsLine, endsLine, agree};
+ghost use Rattle.utf8.specs.Strings.{GREATER, beginsLine, endsLine, agree};
 ghost use Rattle.text.specs.Rules.{identifierText, payloadText, configurationText, labelText};
 ghost use Rattle.text.specs.Beginnings.{identifierBegun, payloadBegun, configurationBegun, labelBegun, unended};
 
@@ -77,29 +77,29 @@ pub fn judge_utf8(s: &[u8]) -> Judged
     judge_rule(s, Rule::Any)
 }
 
-// Whether none of the bytes is a mark. Few bytes and very many are taken in one pass. Others are taken eight at a stride, the last eight from the end, until a mark is seen.
+// Whether none of the bytes is a mark or `>`. Few bytes and very many are taken in one pass. Others are taken eight at a stride, the last eight from the end, until a mark is seen.
 fn is_clear(s: &[u8]) -> bool
-    ensures { λ r. ⌜ r ≡ all unmarked (now (s .entry)) 0 (length (now (s .entry))) ⌝ }
+    ensures { λ r. ⌜ r ≡ all (unmarked GREATER) (now (s .entry)) 0 (length (now (s .entry))) ⌝ }
 {
     let n = s.len();
     if n < 8 {
-        return is_unmarked(s);
+        return is_unmarked(b'>', s);
     }
     if 255 < n {
-        return is_unmarked(s);
+        return is_unmarked(b'>', s);
     }
     let last = n - 8;
     let mut i = 0;
     while i < last {
-        if !is_unmarked8(s, i) {
+        if !is_unmarked8(b'>', s, i) {
             return false;
         }
         i += 8;
     }
-    is_unmarked8(s, last)
+    is_unmarked8(b'>', s, last)
 }
 
-// An identifier or settings. A text with no mark keeps each rule.
+// An identifier or settings. A text with no mark and no `>` keeps each rule.
 pub fn judge_identifier(s: &[u8]) -> Judged
     ensures { λ r. ⌜ r ≡ judgedBy identifierText identifierBegun (now (s .entry)) ⌝ }
 {
@@ -109,16 +109,18 @@ pub fn judge_identifier(s: &[u8]) -> Judged
     judge_rule(s, Rule::Line)
 }
 
-// Whether a quick test tells that the bytes are right for a payload: no mark but single line ends. It is as `is_clear`, and the last eight hold no line end.
+// Whether a quick test tells that the bytes are right for a payload: no mark but single line ends, and no two `-` together. The last eight hold no line end and no `-`.
 fn is_lined(s: &[u8]) -> bool
     ensures { λ r. ⌜ (r ≡ true → keeps Rule.Payload (now (s .entry)) ≡ true) ⌝ }
 {
     let n = s.len();
     if n < 8 {
-        return is_unmarked(s);
+        return is_unmarked(b'-', s);
     }
     if 255 < n {
-        return is_unmarked(s);
+        if is_unmarked(b'-', s) {
+            return true;
+        }
     }
     let last = n - 8;
     let mut i = 0;
@@ -128,7 +130,7 @@ fn is_lined(s: &[u8]) -> bool
         }
         i += 8;
     }
-    is_unmarked8(s, last)
+    is_unmarked8(b'-', s, last)
 }
 
 // What a payload may hold.

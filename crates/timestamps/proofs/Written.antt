@@ -77,7 +77,7 @@ hundred n = omega (arith, div-add-mod' n 100, div-add-mod' (n % 100) 10)
 sum : (t q m h x s k : ℕ) → q * 1000 + x ≡ t → m * 60 + s ≡ q → h * 60 + k ≡ m → h * 3600000 + (k * 60000 + s * 1000 + x) ≡ t
 sum t q m h x s k a b c = omega arith
 
-whole : (t : ℕ) → t / 3600000 * 3600000 + (t / 60000 % 60 * 60000 + t / 1000 % 60 * 1000 + t % 1000) ≡ t
+pub whole : (t : ℕ) → t / 3600000 * 3600000 + (t / 60000 % 60 * 60000 + t / 1000 % 60 * 1000 + t % 1000) ≡ t
 whole t =
     sum t (t / 1000) (t / 60000) (t / 3600000) (t % 1000) (t / 1000 % 60) (t / 60000 % 60)
     (div-add-mod' t 1000)

@@ -22,10 +22,10 @@ use Rattle.verdict.proofs.Judgement.{then-fine, text-right}
 use Rattle.times.specs.Times.{back, scaleAllowed, timelineAllowed}
 use Rattle.table.specs.Table.{rowCount, bytesOf}
 use Rattle.cues.specs.Caption.{caption, longTexts, judgeTexts, badTimes, judgeContent, judgeCaption}
+use Rattle.code_points.specs.CodePoints.{scalars}
 use Rattle.boxes.specs.Boxes.{part}
 use Rattle.tx3g_entry.specs.Entry.{judgeEntry}
-use Rattle.tx3g_sample.specs.Sample.{textEnd, charactersIn}
-use Rattle.tx3g_payload.specs.Points.{pointsOf}
+use Rattle.tx3g_sample.specs.Sample.{textEnd, charactersIn, judgeSample}
 use Rattle.tx3g_payload.specs.Statements.{hasZero}
 use Rattle.tx3g_payload.proofs.Points.{points-good}
 use Rattle.tx3g_payload.proofs.Back.{text-comes-back, empty-is}
@@ -49,17 +49,21 @@ byte-at [] h j = omega arith
 byte-at (b ∷ s) h zero = ltb-true b 256 (both-left (ltb b 256) (bytes s) h)
 byte-at (b ∷ s) h (suc j) = byte-at s (both-right (ltb b 256) (bytes s) h) j
 
+-- the characters of a sample without fault are right ones, as many as counted
+pub characters-right : (e s : List ℕ) → bytes s ≡ true → judgeSample e s ≡ Fine → (scalars (charactersAt s) ≡ true) × (length (charactersAt s) ≡ charactersIn s)
+unfolding charactersAt
+characters-right e s b h = points-good (part s 2 (textEnd s)) (charactersIn s) (part-bytes s 2 (textEnd s) (byte-at s b)) (counted-so s (text-of-fine e s h))
+
 pub sample-rule : SampleRule
-unfolding charactersAt payloadIn
+unfolding payloadIn
 sample-rule e s b h =
-    let t = part s 2 (textEnd s) in
-    let g = points-good t (charactersIn s) (part-bytes s 2 (textEnd s) (byte-at s b)) (counted-so s (text-of-fine e s h)) in
-    let z = empty-is (rangeAt s) (faceOf e s) (pointsOf t) in
+    let g = characters-right e s b h in
+    let z = empty-is (rangeAt s) (faceOf e s) (charactersAt s) in
     record {
       counted = g .1;
-      comes-back = text-comes-back (rangeAt s) (faceOf e s) (pointsOf t);
+      comes-back = text-comes-back (rangeAt s) (faceOf e s) (charactersAt s);
       empty = (z .1, z .0);
-      ruled = only-zero (rangeAt s) (faceOf e s) (pointsOf t) (g .0);
+      ruled = only-zero (rangeAt s) (faceOf e s) (charactersAt s) (g .0);
     }
 
 -- ---- a refusal by 6
@@ -164,7 +168,7 @@ module _ (scale : ℕ) (e table samples : List ℕ) where
       let d = by-track (judgeCues scale e table samples) _ _ _ _ _ r b in
       by-samples (judgeTolds scale 0 0 0 (toldOf e table samples)) (not (timelineAllowed scale (stockMs scale e table samples))) (length (stockCues e table samples)) r (sym (then-fine _ _ f) ∙ d) n
 
-  sample-bytes : bytes samples ≡ true → (i : ℕ) → bytes (bytesOf table samples i) ≡ true
+  pub sample-bytes : bytes samples ≡ true → (i : ℕ) → bytes (bytesOf table samples i) ≡ true
   unfolding bytesOf
   sample-bytes b i = part-bytes samples _ _ (byte-at samples b)
 

@@ -52,14 +52,14 @@ unfolding ascii classOf
 ascii-class b h = let l = ltb-true b 128 h in rw (inside 0 127 b (omega arith) (omega arith))
 
 -- no mark: ASCII from a space on, and not `>`
-unmarked-is : (b : ℕ) → unmarked b ≡ true → (0x20 ≤ b) × (b ≤ 0x7F) × (b ≡ GREATER → ⊥)
+unmarked-is : (b : ℕ) → unmarked GREATER b ≡ true → (0x20 ≤ b) × (b ≤ 0x7F) × (b ≡ GREATER → ⊥)
 unfolding unmarked mark
 unmarked-is b h =
     let e = not-true (one-of (ltb b 0x20) (one-of (ltb 0x7F b) (eqb b GREATER))) h in
     let f = one-of-second (ltb b 0x20) (one-of (ltb 0x7F b) (eqb b GREATER)) e in
     (ltb-false b 0x20 (one-of-first (ltb b 0x20) (one-of (ltb 0x7F b) (eqb b GREATER)) e), ltb-false 0x7F b (one-of-first (ltb 0x7F b) (eqb b GREATER) f), eqb-false b GREATER (one-of-second (ltb 0x7F b) (eqb b GREATER) f))
 
-unmarked-ascii : (b : ℕ) → unmarked b ≡ true → ascii b ≡ true
+unmarked-ascii : (b : ℕ) → unmarked GREATER b ≡ true → ascii b ≡ true
 unfolding ascii
 unmarked-ascii b h = let u = unmarked-is b h in lt-ltb b 0x80 (omega arith)
 
@@ -70,15 +70,15 @@ plain-ascii Line b h = unmarked-ascii b h
 plain-ascii Payload b h = unmarked-ascii b h
 
 -- bytes without marks are plain under each rule
-all-ascii : (s : List ℕ) (i n : ℕ) → all unmarked s i n ≡ true → all ascii s i n ≡ true
+all-ascii : (s : List ℕ) (i n : ℕ) → all (unmarked GREATER) s i n ≡ true → all ascii s i n ≡ true
 unfolding all iter
 all-ascii s i zero h = refl
 all-ascii s i (suc n) h =
-    let here = unmarked-ascii (getD s (i + n) 0) (both-right (all unmarked s i n) (unmarked (getD s (i + n) 0)) h) in
-    let there = all-ascii s i n (both-left (all unmarked s i n) (unmarked (getD s (i + n) 0)) h) in
+    let here = unmarked-ascii (getD s (i + n) 0) (both-right (all (unmarked GREATER) s i n) (unmarked GREATER (getD s (i + n) 0)) h) in
+    let there = all-ascii s i n (both-left (all (unmarked GREATER) s i n) (unmarked GREATER (getD s (i + n) 0)) h) in
     rw (there, here)
 
-pub unmarked-plain : (rule : Rule) (s : List ℕ) (i n : ℕ) → all unmarked s i n ≡ true → true ≡ all (plain rule) s i n
+pub unmarked-plain : (rule : Rule) (s : List ℕ) (i n : ℕ) → all (unmarked GREATER) s i n ≡ true → true ≡ all (plain rule) s i n
 unfolding plain
 unmarked-plain Any s i n h = sym (all-ascii s i n h)
 unmarked-plain Line s i n h = sym h
@@ -287,5 +287,5 @@ unfolding plain
 ascii-utf8 s bytes h = plain-keeps Any s bytes h ∙ any-is s
 
 -- a text without marks keeps each rule
-pub unmarked-keeps : (rule : Rule) (s : List ℕ) → ((j : ℕ) → getD s j 0 < 256) → all unmarked s 0 (length s) ≡ true → true ≡ keeps rule s
+pub unmarked-keeps : (rule : Rule) (s : List ℕ) → ((j : ℕ) → getD s j 0 < 256) → all (unmarked GREATER) s 0 (length s) ≡ true → true ≡ keeps rule s
 unmarked-keeps rule s bytes h = plain-keeps rule s bytes (sym (unmarked-plain rule s 0 (length s) h))

@@ -10,7 +10,7 @@ use Rattle.base.specs.Choice.{pick, one-of}
 use Rattle.base.specs.Iter.{iter}
 use Rattle.ascii.specs.Ascii.{ascii, unmarked, all}
 use Rattle.utf8.specs.Utf8.{classOf}
-use Rattle.utf8.specs.Strings.{startsWithAny}
+use Rattle.utf8.specs.Strings.{GREATER, startsWithAny}
 use Rattle.utf8.specs.Forbidden.{forbidden, keeps}
 use Rattle.utf8.specs.declared.Passed.{Passed}
 use Rattle.utf8.specs.declared.Passed.the-variants.{To, Bad}
@@ -52,8 +52,8 @@ PassedIs rule s start from end (Bad i) = (from ≤ i) × (i < end) × (run rule 
 -- ASCII that ends no forbidden string, whatever stands before it
 unfoldable pub plain : Rule → ℕ → Bool
 plain Any b = ascii b
-plain Line b = unmarked b
-plain Payload b = unmarked b
+plain Line b = unmarked GREATER b
+plain Payload b = unmarked GREATER b
 
 -- the end of the block of at most eight bytes that begins at i, in a text that ends at `end`
 unfoldable pub blockEnd : ℕ → ℕ → ℕ

@@ -162,7 +162,7 @@ fn is_plain8(rule: Rule, s: &[u8], i: usize) -> bool
     requires { ⌜ i + 8 ≤ length (now s) ⌝ }
     ensures { λ r. ⌜ r ≡ all (plain rule) (now (s .entry)) i 8 ⌝ }
 {
-    if is_unmarked8(s, i) {
+    if is_unmarked8(b'>', s, i) {
         return true;
     }
     match rule {

@@ -1,7 +1,7 @@
 -- The first bad byte is one, and `judgedBy` finds it. What a rule owes for it is `Beginnings`.
 use Prim.Native.Nat.{ℕ, zero, suc, _<_, _≤_}
-use mathlib.Core.Path.{_≡_, refl, sym, ap, ap₂}
-use mathlib.Core.Logic.{inl, inr}
+use mathlib.Core.Path.{_≡_, refl, sym, ap, ap₂, subst}
+use mathlib.Core.Logic.{inl, inr, _↔_}
 use mathlib.Core.Bool.{Bool, true, false}
 use mathlib.Core.List.{List, [], _∷_, _++_, append-assoc}
 use native.Mathlib.Omega.{arith}
@@ -10,7 +10,8 @@ use lib.Dec.{ltb}
 use lib.ListN.{length, take, drop, take-append-drop}
 use Rattle.base.specs.Choice.{pick}
 use Rattle.base.proofs.Choice.{both-left, both-right, by-test, true-false, either}
-use Rattle.viable.specs.FirstBad.{bytes, Continues, FirstBad, Passes, stopsAt, judgedBy, JudgedIs}
+use Rattle.viable.specs.FirstBad.{bytes, Continues, FirstBad, Passes, stopsAt, judgedBy, Judges, JudgedIs}
+use Rattle.viable.specs.declared.Judged.{Judged}
 use Rattle.viable.specs.declared.Judged.the-variants.{Right, Bad}
 
 -- `begun` passes exactly the beginnings of the texts that pass `keeps`
@@ -138,12 +139,25 @@ pub judged-same : (keeps begun keeps′ begun′ : List ℕ → Bool) (s : List 
 unfolding judgedBy
 judged-same keeps begun keeps′ begun′ s e h = rw (e, stops-same begun begun′ s h)
 
+-- what one answer says; no other answer would say it
+abbrev pub Says : (List ℕ → Type 0) → List ℕ → Judged → Type 0
+Says Keeps s Right = Keeps s
+Says Keeps s (Bad q) = FirstBad Keeps s q
+
+module _ (Keeps : List ℕ → Type 0) (judged : List ℕ → Judged) where
+  one-answer : (s : List ℕ) (u v : Judged) → Says Keeps s u → Says Keeps s v → u ≡ v
+  one-answer s Right Right a b = refl
+  one-answer s Right (Bad q) a b = absurd (not-both b a)
+  one-answer s (Bad p) Right a b = absurd (not-both a b)
+  one-answer s (Bad p) (Bad q) a b = ap Bad (only-one a b)
+
+  pub judges-by : ((s : List ℕ) → Says Keeps s (judged s)) → Judges Keeps judged
+  judges-by f s =
+      let to : (v : Judged) → (judged s ≡ v) ↔ Says Keeps s v = λ v. (λ e. subst (Says Keeps s) e (f s), λ h. one-answer s (judged s) v (f s) h) in
+      (to Right, λ q. to (Bad q))
+
 -- the law for every rule whose beginnings can be tested
 pub judged-is : {keeps begun : List ℕ → Bool} → Beginnings keeps begun → begun [] ≡ true → JudgedIs keeps begun
-judged-is {keeps} {begun} v h s = (
-  (when-right keeps begun s, λ e. sym (judged-right keeps begun s e)),
-  λ q. (
-    λ e. let w = when-bad keeps begun s q e in rw (w .1) (stops-first v h s (w .0)),
-    λ f. by-test (keeps s) (λ e. absurd (not-both f e)) (λ e. sym (judged-bad keeps begun s q e (only-one f (stops-first v h s e)))),
-  ),
-)
+unfolding judgedBy
+judged-is {keeps} {begun} v h =
+    judges-by (Passes keeps) (judgedBy keeps begun) (λ s. by-test (keeps s) (λ e. rw e e) (λ e. rw e (stops-first v h s e)))

@@ -45,7 +45,10 @@ rightOr false f = Bad (f tt)
 unfoldable pub judgedBy : (List ℕ → Bool) → (List ℕ → Bool) → List ℕ → Judged
 judgedBy keeps begun s = rightOr (keeps s) (λ _. stopsAt begun s)
 
--- it is right of exactly the texts that keep the rule, and bad at q of exactly those whose first bad byte is q; so nobody has to believe the test of beginnings
+-- a judgement that is right of exactly the texts that keep the rule, and bad at q of exactly those whose first bad byte is q
+abbrev pub Judges : (List ℕ → Type 0) → (List ℕ → Judged) → Type 0
+Judges Keeps judged = (s : List ℕ) → (judged s ≡ Right ↔ Keeps s) × ((q : ℕ) → judged s ≡ Bad q ↔ FirstBad Keeps s q)
+
+-- so nobody has to believe the test of beginnings
 abbrev pub JudgedIs : (List ℕ → Bool) → (List ℕ → Bool) → Type 0
-JudgedIs keeps begun =
-    (s : List ℕ) → (judgedBy keeps begun s ≡ Right ↔ Passes keeps s) × ((q : ℕ) → judgedBy keeps begun s ≡ Bad q ↔ FirstBad (Passes keeps) s q)
+JudgedIs keeps begun = Judges (Passes keeps) (judgedBy keeps begun)

@@ -7,8 +7,10 @@ mod entries;
 mod files;
 mod files_out;
 mod inputs;
+mod judge;
 mod lists;
 mod old_tracks;
+mod profile;
 mod reader;
 mod texts;
 mod timing;
@@ -47,6 +49,7 @@ fn main() {
     for count in SIZES {
         old_tracks::bench(count);
     }
+    profile::bench();
     head(" class table ns | from_utf8 ns |");
     texts::bench(&inputs::letters(), "4,095 letters");
     for (name, words) in inputs::LANGUAGES {

@@ -259,6 +259,7 @@ extern "C" {
     pub fn captions_ms(scale: u32, tick: u64) -> u64;
     pub fn captions_wvtt_judge_identifier(text: *const u8, text_len: usize) -> CaptionsRefusal;
     pub fn captions_wvtt_judge_payload(text: *const u8, text_len: usize) -> CaptionsRefusal;
+    pub fn captions_wvtt_judge_profile(text: *const u8, text_len: usize) -> CaptionsRefusal;
     pub fn captions_wvtt_judge_configuration(text: *const u8, text_len: usize) -> CaptionsRefusal;
     pub fn captions_wvtt_judge_label(text: *const u8, text_len: usize) -> CaptionsRefusal;
     pub fn captions_wvtt_judge_sample(sample: *const u8, sample_len: usize) -> CaptionsRefusal;

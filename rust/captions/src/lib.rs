@@ -73,6 +73,18 @@
 //! # }
 //! ```
 //!
+//! # Judge payloads by a tag profile
+//!
+//! ```
+//! use captions::{vtt, wvtt};
+//!
+//! let list = vtt::read(b"WEBVTT\n\n00:00.000 --> 00:01.500\n<font>Good morning.</font>\n")?;
+//! let outside = list.iter().find_map(|cue| wvtt::judge_profile(cue.payload.as_bytes()).err());
+//! let refused = outside.expect("there is no tag font");
+//! assert_eq!(refused.to_string(), "refused 21 1: a payload outside the tag profile");
+//! # Ok::<(), captions::Refusal>(())
+//! ```
+//!
 //! # What is where
 //!
 //! The modules [`wvtt`], [`vtt`] and [`tx3g`] have the names of the C functions `captions_wvtt_…`,

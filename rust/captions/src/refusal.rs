@@ -5,7 +5,7 @@ use std::fmt::{self, Display};
 
 use crate::ffi::CaptionsRefusal;
 
-/// The numbers given back, 1 to 19.
+/// The numbers given back, 1 to 19 and 21.
 #[non_exhaustive]
 #[derive(Clone, Copy, Debug, PartialEq, Eq, PartialOrd, Ord, Hash)]
 pub enum Reason {
@@ -47,14 +47,16 @@ pub enum Reason {
     StyleBlock,
     /// 19: a line or block of a file that may not stand there.
     Malformed,
+    /// 21: a payload outside the tag profile; the place says where.
+    OutsideProfile,
     /// A number that this crate does not know.
     Unknown(u32),
 }
 
 use Reason::*;
 
-/// The reasons by number, from 1 on, with their meaning.
-const REASONS: [(Reason, &str); 19] = [
+/// The reasons by number, from 1 on, with their meaning. No number 20 is given.
+const REASONS: [(Reason, &str); 21] = [
     (BytesMissing, "bytes missing"),
     (BadSize, "a size that does not fit, or another entry type"),
     (KindTwice, "a kind twice"),
@@ -74,6 +76,8 @@ const REASONS: [(Reason, &str); 19] = [
     (NoId, "a cue without ID"),
     (StyleBlock, "a STYLE or REGION block"),
     (Malformed, "a malformed line or block"),
+    (Unknown(20), "unknown"),
+    (OutsideProfile, "a payload outside the tag profile"),
 ];
 
 impl Reason {
@@ -85,7 +89,7 @@ impl Reason {
         }
     }
 
-    /// The reason of a number other than 0. The library gives none above 19.
+    /// The reason of a number other than 0. The library gives none above 21.
     #[inline]
     pub(crate) fn of(number: u32) -> Self {
         let known = REASONS.get((number as usize).wrapping_sub(1));
@@ -117,8 +121,8 @@ impl Display for Reason {
 pub struct Refusal {
     /// Why.
     pub reason: Reason,
-    /// A byte of a sample or an entry, the index of a record or a sample, or the line of a file,
-    /// from 1.
+    /// A byte of a sample or an entry, of a payload that is judged by the tag profile, the index of a
+    /// record or a sample, or the line of a file, from 1.
     pub place: usize,
     /// Where a bad text is bad, from the text's start: the first byte after which no
     /// continuation could be right, or the text's length where it ends too early; 0 for every
@@ -280,7 +284,7 @@ mod tests {
 
     #[test]
     fn other_numbers_are_unknown() {
-        for number in [0, 20, u32::MAX] {
+        for number in [0, 20, 22, u32::MAX] {
             assert_eq!(Reason::of(number), Unknown(number));
             assert_eq!(Reason::of(number).number(), number);
         }

@@ -12,5 +12,5 @@ pub use pack::{
     Unpacked,
 };
 pub use sample::{judge_sample, next_cue, Cue, CueAt, Cues, Sample};
-pub use texts::{judge_configuration, judge_identifier, judge_label, judge_payload};
+pub use texts::{judge_configuration, judge_identifier, judge_label, judge_payload, judge_profile};
 pub use track::{Track, TrackRef, TrackSample, TrackSamples};

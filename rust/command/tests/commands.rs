@@ -15,11 +15,12 @@ const CUE: ListedCue = ListedCue {
     payload: "Hi",
 };
 
-const COMMANDS: [&str; 9] = [
+const COMMANDS: [&str; 10] = [
     "pack",
     "unpack",
     "check",
     "judge",
+    "profile",
     "show",
     "from-vtt",
     "to-vtt",
@@ -85,6 +86,9 @@ fn a_command_line_that_is_not_understood_is_trouble() {
         "judge vtt saws.vtt saws.vtt",
         "judge vtt saws.vtt --t 1",
         "judge tx3g - -",
+        "profile",
+        "profile saws.vtt saws.vtt",
+        "profile saws.vtt --scale 1000",
         "from-vtt saws.vtt",
         "from-vtt saws.vtt -",
         "from-vtt saws.vtt a.vtt",
@@ -231,6 +235,8 @@ fn standard_input_is_a_file() {
     run("check - track --scale 1000 --t 20000").done();
     run("from-vtt - list").done();
     run("judge vtt -").done();
+    let voice = run("profile -").refused();
+    assert!(voice.starts_with("refused 21 at record 1: "), "{voice}");
     run("judge list - --scale 1000 --t 20000").done();
     let written = run("to-vtt - -").done();
     assert!(
@@ -354,6 +360,44 @@ fn what_an_old_track_loses_is_told() {
         assert_eq!(said.refused(), words);
     }
     assert!(!folder.path("new.vtt").exists());
+}
+
+/// The voice of the example file has no end tag.
+#[test]
+fn payloads_are_judged_by_the_profile() {
+    let folder = Folder::with_saws();
+    let words = "refused 21 at record 1: the payload of the cue with ID 1, byte 56, in \"<v Ms Okafor>Is the riving \
+                 knife in line\"…: it ends without \"</v>\"\n";
+    assert_eq!(folder.run("profile saws.vtt").refused(), words);
+    let file = String::from_utf8(folder.get("saws.vtt")).expect("text");
+    folder.put("closed.vtt", file.replace("the blade?", "the blade?</v>"));
+    let all = "7 cues, all within the profile\n";
+    assert_eq!(folder.run("profile closed.vtt").done(), all);
+    folder.run("from-vtt closed.vtt closed").done();
+    assert_eq!(folder.run("profile closed.rec").done(), all);
+    folder.put("none.vtt", "WEBVTT\n");
+    assert_eq!(
+        folder.run("profile none.vtt").done(),
+        "0 cues, all within the profile\n"
+    );
+    let cue = |id, payload| ListedCue { id, payload, ..CUE };
+    let cues = [cue(9, "<b>a</i>"), cue(3, "<i>b</i>"), cue(5, "&copy;")];
+    folder.put_list("some", &list(&cues));
+    let words = "\
+        refused 21 at record 0: the payload of the cue with ID 9, byte 6, in \"</i>\": \"</i>\" closes \"b\"\n\
+        refused 21 at record 2: the payload of the cue with ID 5, byte 1, in \"&copy;\": \"&copy;\" is no escape of \
+        the profile\n";
+    assert_eq!(folder.run("profile some").refused(), words);
+    // What cannot be packed is refused before.
+    let mut bad = list(&cues).into_parts();
+    bad.1[0] = 0xFF;
+    folder.put("bad.rec", &bad.0);
+    folder.put("bad.pool", &bad.1);
+    assert_eq!(
+        folder.run("profile bad").refused(),
+        "refused 6 at record 0: the payload's byte 0 is not UTF-8\n"
+    );
+    folder.run("profile missing").trouble();
 }
 
 #[test]
@@ -488,17 +532,13 @@ fn what_is_printed_of_the_input_is_escaped() {
     folder.put("b.vtt", format!("{hostile}\n"));
     folder.put_list("list", &list(&[CUE]));
     folder.run("pack list track --scale 1000 --t 1000").done();
-    folder.put_list(
-        "other",
-        &list(&[ListedCue {
-            payload: hostile,
-            ..CUE
-        }]),
-    );
+    let payload = &format!("<v {hostile}>");
+    folder.put_list("other", &list(&[ListedCue { payload, ..CUE }]));
     for args in [
         vec!["judge", "vtt", "a.vtt"],
         vec!["judge", "vtt", "b.vtt"],
         vec!["check", "other", "track", "--scale", "1000", "--t", "1000"],
+        vec!["profile", "other"],
         vec!["judge", "vtt", hostile],
         vec![hostile],
         vec!["judge", hostile, "x"],

@@ -17,6 +17,9 @@ const TIMES: &str = "--scale 1000 --t 20000";
 /// A folder with a list, its track and the file, and a track of 3GPP text.
 fn whole() -> Folder {
     let folder = Folder::with_saws();
+    // The voice of the example is closed, as the tag profile wants it.
+    let file = String::from_utf8(folder.get("saws.vtt")).expect("text");
+    folder.put("saws.vtt", file.replace("the blade?", "the blade?</v>"));
     folder.run("from-vtt saws.vtt list").done();
     folder.run(&format!("pack saws.vtt track {TIMES}")).done();
     folder.put_old("made-modifiers");
@@ -24,12 +27,13 @@ fn whole() -> Folder {
 }
 
 /// The commands, each with all of its inputs.
-fn lines() -> [String; 11] {
+fn lines() -> [String; 12] {
     [
         format!("pack list out {TIMES}"),
         format!("check list track {TIMES}"),
         format!("judge list list {TIMES}"),
         "judge track track".into(),
+        "profile list".into(),
         "judge entry track".into(),
         "unpack track out --scale 1000".into(),
         "to-vtt list out.vtt --header track.entry".into(),
@@ -85,7 +89,7 @@ fn spoiled(spoil: fn(&std::path::Path), why: &str) {
         }
     }
     // Each of the files by the commands that read it.
-    assert_eq!(refused, 1 + 4 + 4 + 5 + 5 + 2 + 3);
+    assert_eq!(refused, 1 + 5 + 5 + 5 + 5 + 2 + 3);
 }
 
 #[test]

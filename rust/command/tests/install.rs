@@ -326,7 +326,7 @@ fn the_manual_has_every_command_and_option() {
     let manual = installed("share/man/man1/captions.1").replace("\\-", "-");
     let known = options(&manual);
     let commands = commands();
-    assert_eq!(commands.len(), 9);
+    assert_eq!(commands.len(), 10);
     for command in &commands {
         let title = format!(".SS {command} ");
         assert!(manual.contains(&title), "{command}");
@@ -403,6 +403,7 @@ fn the_manual_s_examples_run() {
     assert_eq!(status, Some(1));
     assert_eq!(outputs.next().expect("the picture").0, Some(1));
     assert!(folder.join("talk.svg").exists());
+    assert_eq!(outputs.next(), Some((Some(0), String::new())));
     assert_eq!(outputs.next().expect("unpacking").0, Some(0));
     assert_eq!(outputs.next(), Some((Some(0), String::new())));
     assert!(folder.join("old.vtt").exists());
@@ -440,7 +441,8 @@ fn completed(words: &[&str]) -> Vec<String> {
 #[test]
 fn completion_offers_files_and_kinds() {
     for (words, wanted) in [
-        (&["p"][..], &["pack"][..]),
+        (&["p"][..], &["pack", "profile"][..]),
+        (&["profile", ""], &["b.vtt", "my talk", "sub"]),
         (&["--v"], &["--version"]),
         (&["pack", ""], &["b.vtt", "my talk", "sub"]),
         (&["pack", "my\\ t"], &["my talk"]),

@@ -6,8 +6,8 @@ mod common;
 use std::fs;
 
 use captions_harness::generate::{
-    check_input, damage_bytes, tx3g_entry, tx3g_input, tx3g_track, unpack_input, vtt_file,
-    vtt_parts, wvtt_entry, wvtt_sample, zero_durations, CueList, Track, Tx3gTrack,
+    check_input, damage_bytes, profile_text, tx3g_entry, tx3g_input, tx3g_track, unpack_input,
+    vtt_file, vtt_parts, wvtt_entry, wvtt_sample, zero_durations, CueList, Track, Tx3gTrack,
 };
 use captions_harness::random::Random;
 use captions_harness::{Library, Model, Refusal};
@@ -199,6 +199,49 @@ fn samples_of_duration_0() {
         });
         assert_eq!(outputs(&folder, &[".table", ".samples"]), left);
     }
+}
+
+/// Each cue whose payload is outside the tag profile has a line, with the byte.
+#[test]
+fn payloads() {
+    let folder = Folder::new();
+    let mut seen = [0; 2];
+    for mut random in (0..ROUNDS).map(Random::new) {
+        let mut list = captions::CueList::new();
+        let mut expected = Vec::new();
+        for index in 0..random.below(6) {
+            let Ok(payload) = String::from_utf8(profile_text(&mut random)) else {
+                continue;
+            };
+            let judged = Model.judge_profile(payload.as_bytes());
+            let refused = judged.expect("the model judges").err();
+            if refused.is_some_and(|refusal| refusal.number != 21) {
+                continue;
+            }
+            let (id, record) = (90 - index as u32, list.len());
+            let cue = captions::ListedCue {
+                id,
+                end_ms: 1,
+                payload: &payload,
+                ..Default::default()
+            };
+            list.push(cue).expect("it fits");
+            expected.extend(refused.map(|refusal| {
+                let place = refusal.place;
+                format!("refused 21 at record {record}: the payload of the cue with ID {id}, byte {place}, in ")
+            }));
+        }
+        folder.put_list("list", &list);
+        let run = folder.run("profile list");
+        seen[usize::from(expected.is_empty())] += 1;
+        assert_eq!(run.status, Some(i32::from(!expected.is_empty())));
+        assert_eq!(run.out.is_empty(), !expected.is_empty());
+        assert_eq!(run.err.lines().count(), expected.len(), "{}", run.err);
+        for (line, begin) in run.err.lines().zip(&expected) {
+            assert!(line.starts_with(begin), "{line}");
+        }
+    }
+    assert!(seen.iter().all(|&count| count > 20), "{seen:?}");
 }
 
 #[test]

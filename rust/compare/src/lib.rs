@@ -50,6 +50,11 @@ impl Library for Proved {
         Some(judged.map_err(refusal))
     }
 
+    fn judge_profile(&self, text: &[u8]) -> Offered<Result<(), Refusal>> {
+        let judged = lend([text], |[text]| wvtt::judge_profile(text));
+        Some(judged.map_err(refusal))
+    }
+
     fn judge_configuration(&self, text: &[u8]) -> Offered<Result<(), Refusal>> {
         let judged = lend([text], |[text]| wvtt::judge_configuration(text));
         Some(judged.map_err(refusal))

@@ -88,6 +88,7 @@ fn no_text_is_answered() {
         assert_eq!(both_ways(|p| captions_judge_utf8(p, 0)), DONE);
         assert_eq!(both_ways(|p| captions_wvtt_judge_identifier(p, 0)), DONE);
         assert_eq!(both_ways(|p| captions_wvtt_judge_payload(p, 0)), DONE);
+        assert_eq!(both_ways(|p| captions_wvtt_judge_profile(p, 0)), DONE);
         let configuration = both_ways(|p| captions_wvtt_judge_configuration(p, 0));
         assert_eq!(configuration, refused(6, 0));
         assert_eq!(both_ways(|p| captions_wvtt_judge_label(p, 0)), DONE);

@@ -135,7 +135,7 @@ pub fn differential_round(
 type Compared = Result<(), Difference>;
 type Operation = fn(&mut Pair, &mut Random) -> Compared;
 
-const OPERATIONS: [Operation; 21] = [
+const OPERATIONS: [Operation; 22] = [
     compare_fields,
     compare_times,
     compare_texts,
@@ -157,6 +157,7 @@ const OPERATIONS: [Operation; 21] = [
     tx3g::compare_run,
     converting::compare_conversion,
     converting::compare_dropping,
+    compare_profile,
 ];
 
 /// The two libraries and the round.
@@ -308,6 +309,14 @@ fn compare_texts(pair: &mut Pair, random: &mut Random) -> Compared {
             l.judge_configuration(&text)
         })?;
         pair.judge("judge_label", input, |l| l.judge_label(&text))?;
+    }
+    Ok(())
+}
+
+fn compare_profile(pair: &mut Pair, random: &mut Random) -> Compared {
+    for _ in 0..4 {
+        let text = make::profile_text(random);
+        pair.judge("judge_profile", &[&text], |l| l.judge_profile(&text))?;
     }
     Ok(())
 }

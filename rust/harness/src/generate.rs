@@ -3,6 +3,8 @@
 mod boxes;
 mod cue_list;
 mod damage;
+mod profile;
+mod profile_edits;
 mod program;
 mod text;
 mod track;
@@ -15,6 +17,8 @@ mod wvtt;
 pub use boxes::{box_of, step_input};
 pub use cue_list::{list, CueList};
 pub use damage::{damage_boxes, damage_bytes};
+pub use profile::{profile_text, shown_time, tagged_text, TELLING};
+pub use profile_edits::{continuations, every_damage, short_tagged_texts};
 pub use program::{program_input, ProgramInput};
 pub use text::{any_text, bad_text, identifier, payload, tx3g_text};
 pub use track::{check_input, packed, unpack_input, Track};

@@ -89,6 +89,11 @@ pub trait Library {
         None
     }
 
+    /// Judges a payload by its length, its rule and the tag profile.
+    fn judge_profile(&self, text: &[u8]) -> Offered<Result<(), Refusal>> {
+        None
+    }
+
     /// Judges a text as a `vttC` body.
     fn judge_configuration(&self, text: &[u8]) -> Offered<Result<(), Refusal>> {
         None

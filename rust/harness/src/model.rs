@@ -8,7 +8,7 @@ use captions_model::tx3g::{self, Converted, Fields, Font, Modifier};
 use captions_model::unpack::{self, Unpacked};
 use captions_model::vtt::{self, Read as VttRead};
 use captions_model::wvtt::{self, Cue, Entry};
-use captions_model::{check, list, program, text, time, track, Fault, Refusal};
+use captions_model::{check, list, profile, program, text, time, track, Fault, Refusal};
 
 use crate::library::{Library, Next, Offered, RunInput, TextBoxAt, Tx3gSample};
 
@@ -64,6 +64,10 @@ impl Library for Model {
 
     fn judge_payload(&self, text: &[u8]) -> Offered<Result<(), Refusal>> {
         Some(judged(text::payload_fault(text)))
+    }
+
+    fn judge_profile(&self, text: &[u8]) -> Offered<Result<(), Refusal>> {
+        Some(profile::judge_profile(text))
     }
 
     fn judge_configuration(&self, text: &[u8]) -> Offered<Result<(), Refusal>> {

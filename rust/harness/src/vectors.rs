@@ -148,7 +148,7 @@ const ANY_NOTES: Form = Form {
     ignored: 1,
     ..OFFSETS
 };
-const RUNNERS: [(&str, Form, Runner); 26] = [
+const RUNNERS: [(&str, Form, Runner); 27] = [
     ("text.tsv", PLACES, run_text),
     ("sample.tsv", PLACES, run_sample),
     ("wvtt_entry.tsv", PLACES, run_wvtt_entry),
@@ -175,6 +175,7 @@ const RUNNERS: [(&str, Form, Runner); 26] = [
     ("02/tx3g_entry.tsv", OFFSETS, run_tx3g_entry),
     ("02/tx3g_sample.tsv", OFFSETS, run_tx3g_blinking),
     ("02/convert_tx3g.tsv", ANY_NOTES, run_convert),
+    ("02/profile.tsv", OFFSETS, run_profile),
 ];
 
 /// Runs all rows, foreign tracks and foreign files below `dir`.
@@ -274,6 +275,11 @@ fn run_text_offsets(library: &dyn Library, row: &Row) -> Verdict {
         compare(got, expected)
     });
     verdicts.fold(Skipped, both)
+}
+
+fn run_profile(library: &dyn Library, row: &Row) -> Verdict {
+    let got = library.judge_profile(&row.bytes(0));
+    compare_judged(got, row.judged().0)
 }
 
 fn run_sample(library: &dyn Library, row: &Row) -> Verdict {

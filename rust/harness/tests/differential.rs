@@ -25,6 +25,7 @@ fn every_number_is_reached() {
     print!("{counts}");
     assert_eq!(counts.total_skipped(), 0);
     let reached = |operation, numbers: &[u32]| assert_reached(&counts, operation, numbers);
+    reached("judge_profile", &[0, 6, 9, 21]);
     reached("box_step", &[0, 1, 2]);
     reached("judge_sample", &[0, 1, 2, 3, 4, 5, 6, 8, 9]);
     reached("next_cue", &[0, 1, 2]);
@@ -72,6 +73,7 @@ fn many_offsets_are_reached() {
     reached("judge_utf8", 100);
     reached("judge_identifier", 100);
     reached("judge_payload", 100);
+    reached("judge_profile", 60);
     reached("judge_configuration", 60);
     reached("judge_label", 100);
     reached("characters", 60);

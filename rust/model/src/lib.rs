@@ -1,6 +1,6 @@
 //! A plain model of the captions library: WebVTT (`wvtt`) and 3GPP text (`tx3g`)
 //! samples and sample entries, cue lists, tracks, packing, unpacking and the check, WebVTT
-//! files, and 3GPP text as cues.
+//! files, 3GPP text as cues, and the tag profile of payloads.
 //!
 //! All inputs and outputs are lent byte slices. A refusal gives a number, a place and an
 //! offset, and leaves every output as it was.
@@ -10,6 +10,7 @@ pub mod check;
 pub mod lasting;
 pub mod list;
 pub mod pack;
+pub mod profile;
 pub mod program;
 pub mod runs;
 pub mod text;
@@ -61,6 +62,8 @@ pub mod number {
     pub const STYLE_BLOCK: u32 = 18;
     /// A line or block of a file that may not stand there.
     pub const MALFORMED: u32 = 19;
+    /// A payload outside the tag profile.
+    pub const OUTSIDE_PROFILE: u32 = 21;
 }
 
 /// Why something was refused, and where.

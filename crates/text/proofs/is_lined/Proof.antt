@@ -4,8 +4,7 @@ use mathlib.Core.Path.{refl, sym, _∙_}
 use native.Mathlib.Omega.{arith}
 use borrow.Author.Tests.{not-false}
 use Rattle.base.proofs.Choice.{true-false}
-use Rattle.utf8.proofs.Machine.{unmarked-keeps}
-use Rattle.text.proofs.Marks.{linedAt, Passes, none-pass, lined-more, lined-last, lined-keeps}
+use Rattle.text.proofs.Marks.{linedAt, Passes, none-pass, lined-more, lined-last, lined-keeps, dashless-keeps}
 use borrow.Author.Needs.{needs}
 use Rattle.text.proofs.is_lined.Statement.{statement}
 use Rattle.text.proofs.is_lined.Tie as tie
@@ -17,10 +16,10 @@ abbrev μ-loop : tie.MeasureT-loop
 μ-loop s n last i₀ i = n - i
 
 returns : tie.Need-returns Inv-loop μ-loop
-returns c h = sym (unmarked-keeps _ _ (λ j. c .before .before .shared-slice-known .given j .fits) (sym (c .is-unmarked .ensures) ∙ h))
+returns c h = dashless-keeps _ (λ j. c .before .before .shared-slice-known .given j .fits) (sym (c .is-unmarked .ensures) ∙ h)
 
 returns-2 : tie.Need-returns-2 Inv-loop μ-loop
-returns-2 c h = sym (unmarked-keeps _ _ (λ j. c .before .before .before .shared-slice-known .given j .fits) (sym (c .is-unmarked2 .ensures) ∙ h))
+returns-2 c h = dashless-keeps _ (λ j. c .before .before .before .before .shared-slice-known .given j .fits) (sym (c .before .is-unmarked2 .ensures) ∙ c .if3 .taken)
 
 loop-holds : tie.Need-loop-holds Inv-loop μ-loop
 loop-holds c = (omega arith, none-pass _)
@@ -30,7 +29,7 @@ returns-3 c h = true-false _ h refl
 
 loop-again : tie.Need-loop-again Inv-loop μ-loop
 loop-again c =
-    (omega (arith, c .before .before .loop-test .taken), lined-more _ _ 8 (c .before .before .before .loop .inv .1) (sym (c .before .is-lined8 .ensures) ∙ not-false (c .before .is-lined8 .result) (c .if3 .left)))
+    (omega (arith, c .before .before .loop-test .taken), lined-more _ _ 8 (c .before .before .before .loop .inv .1) (sym (c .before .is-lined8 .ensures) ∙ not-false (c .before .is-lined8 .result) (c .if4 .left)))
 
 returns-4 : tie.Need-returns-4 Inv-loop μ-loop
 returns-4 c h = lined-keeps _ (λ j. c .before .before .before .before .before .shared-slice-known .given j .fits) (lined-last _ _ 8 _ (omega arith) (c .before .loop-test .left) (c .before .before .loop .inv .1) (sym (c .is-unmarked8 .ensures) ∙ h))

@@ -6,6 +6,7 @@ mod from_3gpp;
 mod from_vtt;
 mod judge;
 mod pack;
+mod profile;
 mod show;
 mod to_vtt;
 mod unpack;
@@ -25,11 +26,12 @@ pub struct Command {
     run: fn(&[OsString]) -> Result<(), Failure>,
 }
 
-const COMMANDS: [Command; 9] = [
+const COMMANDS: [Command; 10] = [
     pack::COMMAND,
     unpack::COMMAND,
     check::COMMAND,
     judge::COMMAND,
+    profile::COMMAND,
     show::COMMAND,
     from_vtt::COMMAND,
     to_vtt::COMMAND,

@@ -151,7 +151,7 @@ fn other_text(id: u32, listed: &Cue, held: &Cue) -> String {
 }
 
 /// The beginning of a text in quotes.
-fn part(text: &str) -> String {
+pub fn part(text: &str) -> String {
     let end = text
         .char_indices()
         .nth(SHOWN)

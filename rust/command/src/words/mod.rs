@@ -4,6 +4,7 @@ mod boxes;
 mod difference;
 mod file;
 mod list;
+mod profile;
 mod text;
 mod track;
 mod tx3g;
@@ -13,7 +14,7 @@ mod wvtt;
 use std::fmt::Display;
 
 use captions::limits::LARGEST_MS;
-use captions::{Fault, Reason, Refusal, Who};
+use captions::{Fault, ListedCue, Reason, Refusal, Who};
 
 use crate::failure::Failure;
 use crate::files::{List, TrackFiles, VTT_SCALE};
@@ -91,6 +92,13 @@ pub fn converting(entry: &[u8], track: &TrackFiles, scale: u32, fault: &Fault) -
 pub fn dropping(track: &TrackFiles, refusal: &Refusal) -> Failure {
     let (kind, what) = track::in_table(track, refusal, |_| None);
     refused(refusal, kind, what)
+}
+
+/// A cue of a list whose payload is outside the tag profile. The place is a byte of the payload.
+pub fn outside_profile(index: usize, cue: &ListedCue, refusal: &Refusal) -> String {
+    let (number, id) = (refusal.reason.number(), cue.id);
+    let what = profile::at(cue.payload, refusal.place);
+    format!("refused {number} at record {index}: the payload of the cue with ID {id}, {what}")
 }
 
 /// A list and a track that do not pass the check.
@@ -178,6 +186,36 @@ mod tests {
                 look(&super::file(&file, &refusal), &refusal);
             }
         }
+    }
+
+    #[test]
+    fn every_payload_outside_the_profile_is_told() {
+        let mut random = Random(4);
+        let good =
+            b"<v.a A&amp;B>a<00:00:05.000><b>b</b><ruby>c<rt>d</rt></ruby>&lt;<00:00:05.001></v>";
+        assert_eq!(wvtt::judge_profile(good), Ok(()));
+        let mut seen = 0;
+        for _ in 0..ROUNDS {
+            let mut text = good.to_vec();
+            for _ in 0..=random.below(3) {
+                random.damage(&mut text);
+            }
+            let (Ok(payload), Err(refusal)) =
+                (std::str::from_utf8(&text), wvtt::judge_profile(&text))
+            else {
+                continue;
+            };
+            if refusal.reason == Reason::OutsideProfile {
+                let cue = ListedCue {
+                    payload,
+                    ..Default::default()
+                };
+                let said = outside_profile(0, &cue, &refusal);
+                look(&Failure::Refused(said), &refusal);
+                seen += 1;
+            }
+        }
+        assert!(seen > ROUNDS / 3, "{seen}");
     }
 
     #[test]

@@ -42,6 +42,17 @@ fn the_examples_run() {
     assert_eq!(run_file("examples/c/example.c", "example"), "7 Hi\n");
     let packed = run_file("examples/c/pack.c", "pack");
     assert_eq!(packed, "1000 41\n500 75\n1000 34\n500 8\n");
+    let judged = run_file("examples/c/profile.c", "profile");
+    let lines: Vec<&str> = judged.lines().collect();
+    assert_eq!(
+        lines,
+        [
+            "inside: <v Fred>Hi, <i>Bill</i>.</v>",
+            "outside at byte 16: <b>Hi, <i>Bill</b></i>",
+            "outside at byte 17: <v Fred>Hi, Bill.",
+            "outside at byte 6: Fred & Bill",
+        ]
+    );
     let read = run_file("examples/c/tx3g.c", "tx3g");
     let (entry, runs) = (
         "font 1 Serif\nbox 0 0 60 400 of the entry\n",

@@ -177,6 +177,9 @@ static void converted(CaptionsTx3gConverted c) {
            c.retired_blinking, c.hclr, c.krok, c.dlay, c.href, c.tbox, c.twrp);
 }
 
+/* One byte more than a payload may have. */
+static const uint8_t LONG[CAPTIONS_LONGEST_PAYLOAD + 1] = {0};
+
 static void texts(void) {
     judged("utf8", captions_judge_utf8(TEXT("\xc3\xa9")));
     judged("utf8", captions_judge_utf8(TEXT("a\xe2\x82z")));
@@ -187,6 +190,11 @@ static void texts(void) {
     judged("payload", captions_wvtt_judge_payload(TEXT("a\nb")));
     judged("payload", captions_wvtt_judge_payload(TEXT("a\nb\n")));
     judged("payload", captions_wvtt_judge_payload(NONE));
+    judged("profile", captions_wvtt_judge_profile(TEXT("<v A>a</v>")));
+    judged("profile", captions_wvtt_judge_profile(TEXT("<i>a</b>")));
+    judged("profile", captions_wvtt_judge_profile(TEXT("<i>a\n\nb</i>")));
+    judged("profile", captions_wvtt_judge_profile(LONG, sizeof LONG));
+    judged("profile", captions_wvtt_judge_profile(NONE));
     judged("configuration", captions_wvtt_judge_configuration(TEXT("WEBVTT")));
     judged("configuration", captions_wvtt_judge_configuration(TEXT("WEBVTX\xff")));
     judged("configuration", captions_wvtt_judge_configuration(NONE));
@@ -436,7 +444,8 @@ static void converting(void) {
 
 int main(void) {
     printf("%s %d %d %d\n", CAPTIONS_VERSION, CAPTIONS_VERSION_MAJOR, CAPTIONS_VERSION_MINOR, CAPTIONS_VERSION_PATCH);
-    printf("%s, %s, %s\n", captions_reason(CAPTIONS_DONE), captions_reason(CAPTIONS_MALFORMED), captions_reason(CAPTIONS_MALFORMED + 1));
+    printf("%s, %s, %s\n", captions_reason(CAPTIONS_DONE), captions_reason(CAPTIONS_OUTSIDE_PROFILE),
+           captions_reason(CAPTIONS_OUTSIDE_PROFILE + 1));
     texts();
     boxes_and_times();
     wvtt_samples();

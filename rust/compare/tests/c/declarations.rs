@@ -36,7 +36,7 @@ fn assert_same(one: &Declared, other: &Declared) {
 fn rust_declares_what_the_header_does() {
     let (c, rust) = (header(&c_header()), rust(&read("rust/captions/src/ffi.rs")));
     assert_same(&c, &rust);
-    assert_eq!((c.structs.len(), c.functions.len()), (20, 36));
+    assert_eq!((c.structs.len(), c.functions.len()), (20, 37));
 }
 
 /// The sources of a Rattle crate.
@@ -57,7 +57,7 @@ fn rattle_declares_what_the_header_does() {
     assert_same(&header(&c_header()), &found);
 }
 
-const REASONS: [Reason; 19] = [
+const REASONS: [Reason; 20] = [
     Reason::BytesMissing,
     Reason::BadSize,
     Reason::KindTwice,
@@ -77,6 +77,7 @@ const REASONS: [Reason; 19] = [
     Reason::NoId,
     Reason::StyleBlock,
     Reason::Malformed,
+    Reason::OutsideProfile,
 ];
 
 /// `BadText` as `BAD_TEXT`.
@@ -128,17 +129,18 @@ fn the_words_are_the_same() {
         "words",
         "#include <captions.h>\n#include <stdio.h>\n\
          int main(void) {\n\
-         for (unsigned n = 0; n < 22; n++) puts(captions_reason(n));\n\
+         for (unsigned n = 0; n < 24; n++) puts(captions_reason(n));\n\
          puts(captions_reason(0xffffffff));\n\
          puts(CAPTIONS_VERSION);\n\
          return 0; }\n",
     );
-    let known = REASONS.iter().map(Reason::to_string);
-    let unknown = ["unknown"; 3].map(str::to_string);
+    let words = |number: u32| match REASONS.iter().find(|reason| reason.number() == number) {
+        Some(reason) => reason.to_string(),
+        None => "unknown".to_string(),
+    };
     let expected: Vec<String> = ["done".to_string()]
         .into_iter()
-        .chain(known)
-        .chain(unknown)
+        .chain((1..24).chain([u32::MAX]).map(words))
         .chain([captions::VERSION.to_string()])
         .collect();
     assert_eq!(output.lines().collect::<Vec<_>>(), expected);

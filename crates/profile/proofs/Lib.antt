@@ -1,0 +1,10 @@
+pub mod Readings
+pub mod ByteKinds
+pub mod Clock
+pub mod Times
+pub mod Bytes
+pub mod Accepts
+pub mod Sound
+pub mod Live
+pub mod Theorems
+pub mod Cases

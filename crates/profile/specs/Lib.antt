@@ -1,0 +1,5 @@
+pub mod Grammar
+pub mod Machine
+pub mod Readings
+pub mod Statements
+pub mod Cases
