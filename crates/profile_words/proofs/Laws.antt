@@ -1,6 +1,7 @@
 -- Laws of the readers of words.
 use Prim.Native.Nat.{ℕ, suc, _+_, _*_, _≤_, _<_}
-use mathlib.Core.Path.{_≡_, refl, subst}
+use mathlib.Core.Path.{_≡_, refl, subst, _∙_}
+use mathlib.Core.Bool.{Bool, true, not}
 use mathlib.Core.Logic.{_⊎_, inl, inr, ⊎-elim}
 use mathlib.Core.Option.{some}
 use mathlib.Core.List.{List, [], _∷_}
@@ -10,9 +11,9 @@ use native.Mathlib.Numerals.{add-one}
 use lib.Dec.{eqb}
 use lib.ListN.{length, getD, drop, drop-of-length-le}
 use lib.Seq.{drop-cons}
-use borrow.Author.Tests.{eq-eqb, ne-eqb, eqb-true}
-use Rattle.base.specs.Choice.{pick}
-use Rattle.base.proofs.Choice.{by-test}
+use borrow.Author.Tests.{eq-eqb, ne-eqb, eqb-true, not-true}
+use Rattle.base.specs.Choice.{pick, both}
+use Rattle.base.proofs.Choice.{by-test, both-left, both-right, true-false}
 use Rattle.profile.specs.declared.Spot.the-variants.{Past, Bad}
 use Rattle.profile.specs.Machine.{State, at, Amp, AmpL, lit, find, escapes, escapesL, step}
 use Rattle.profile.specs.Readings.{Reads, Anywhere, goesOn}
@@ -127,15 +128,36 @@ Mark m x w = (m ≡ pick (eqb x w) 1 0) × (m ≤ 1)
 mark-cases : (m x w : ℕ) → Mark m x w → (m ≡ 0) ⊎ ((m ≡ 1) × (x ≡ w))
 mark-cases m x w k = by-test (eqb x w) (λ t. inr (rw t at (k .0), eqb-true x w t)) (λ t. inl (rw t at (k .0)))
 
-mark-off : (m x w : ℕ) → Mark m x w → (x ≡ w → ⊥) → m ≡ 0
-mark-off m x w k n = rw (ne-eqb x w n) at (k .0)
-
 abbrev Found : List ℕ → ℕ → ℕ → Type 0
 Found s p n = (n ≡ 0) ⊎ Reads Anywhere s p (Past (p + n)) amps goesOn
 
 found : (s : List ℕ) (p : ℕ) (h : p + 5 ≤ length s) (n m : ℕ) → n ≡ m → Long s p h m → Found s p n
 unfolding Long
 found s p h n m e k = rw e (inr k)
+
+-- no key of the list
+away : ℕ → List ℕ → Bool
+away t [] = true
+away t (k ∷ ks) = both (not (eqb t k)) (away t ks)
+
+module _ (s : List ℕ) (p : ℕ) (h : p + 5 ≤ length s) (two : ℕ) where
+  -- a sum over marks, each of which fixes the first two bytes by its key: it tells a length, and is 0 for other bytes
+  Sum : List ℕ → ℕ → Type 0
+  Sum ks n = Found s p n × (away two ks ≡ true → n ≡ 0)
+
+  -- one mark more
+  more : (n m x w key : ℕ) (ks : List ℕ) (rest : ℕ) → Mark m x w → (x ≡ w → two ≡ key) → away key ks ≡ true → (x ≡ w → Long s p h n) → Sum ks rest → Sum (key ∷ ks) (n * m + rest)
+  unfolding Sum away
+  more n m x w key ks rest k f a l r =
+      ⊎-elim
+      (λ z.
+      let e : n * m + rest ≡ rest = rw z (omega arith) in
+      (rw e (r .0), λ q. e ∙ r .1 (both-right (not (eqb two key)) (away two ks) q)))
+      (λ y.
+      let t = f (y .1) in
+      let e : n * m + rest ≡ n = rw (y .0, r .1 (rw t a)) (omega arith) in
+      (found s p h (n * m + rest) n e (l (y .1)), λ q. true-false (eqb two key) (eq-eqb two key t) (not-true (eqb two key) (both-left (not (eqb two key)) (away two ks) q))))
+      (mark-cases m x w k)
 
 -- a byte of the text
 abbrev pub Byte : List ℕ → ℕ → ℕ → Type 0
@@ -148,60 +170,15 @@ module _ (s : List ℕ) (p : ℕ) (h : p + 5 ≤ length s) (a b c d e : ℕ) (ka
   abbrev Told : Type 0
   Told = Found s p (3 * (lt + gt) + 4 * (amp + lrm + rlm) + 5 * nbsp)
 
-  told-lt : (lt ≡ 1) × (three ≡ 0x6C743B) → Told
-  told-lt y =
-      let z-gt = mark-off gt three 0x67743B m-gt (λ q. omega arith) in
-      let z-amp = mark-off amp four 0x616D703B m-amp (λ q. omega arith) in
-      let z-lrm = mark-off lrm four 0x6C726D3B m-lrm (λ q. omega arith) in
-      let z-rlm = mark-off rlm four 0x726C6D3B m-rlm (λ q. omega arith) in
-      let z-nbsp = mark-off nbsp five 0x6E6273703B m-nbsp (λ q. omega arith) in
-      found s p h _ 3 (omega arith) (long-lt s p h (omega arith) (omega arith) (omega arith))
-
-  told-gt : (gt ≡ 1) × (three ≡ 0x67743B) → Told
-  told-gt y =
-      let z-lt = mark-off lt three 0x6C743B m-lt (λ q. omega arith) in
-      let z-amp = mark-off amp four 0x616D703B m-amp (λ q. omega arith) in
-      let z-lrm = mark-off lrm four 0x6C726D3B m-lrm (λ q. omega arith) in
-      let z-rlm = mark-off rlm four 0x726C6D3B m-rlm (λ q. omega arith) in
-      let z-nbsp = mark-off nbsp five 0x6E6273703B m-nbsp (λ q. omega arith) in
-      found s p h _ 3 (omega arith) (long-gt s p h (omega arith) (omega arith) (omega arith))
-
-  told-amp : (amp ≡ 1) × (four ≡ 0x616D703B) → Told
-  told-amp y =
-      let z-lt = mark-off lt three 0x6C743B m-lt (λ q. omega arith) in
-      let z-gt = mark-off gt three 0x67743B m-gt (λ q. omega arith) in
-      let z-lrm = mark-off lrm four 0x6C726D3B m-lrm (λ q. omega arith) in
-      let z-rlm = mark-off rlm four 0x726C6D3B m-rlm (λ q. omega arith) in
-      let z-nbsp = mark-off nbsp five 0x6E6273703B m-nbsp (λ q. omega arith) in
-      found s p h _ 4 (omega arith) (long-amp s p h (omega arith) (omega arith) (omega arith) (omega arith))
-
-  told-lrm : (lrm ≡ 1) × (four ≡ 0x6C726D3B) → Told
-  told-lrm y =
-      let z-lt = mark-off lt three 0x6C743B m-lt (λ q. omega arith) in
-      let z-gt = mark-off gt three 0x67743B m-gt (λ q. omega arith) in
-      let z-amp = mark-off amp four 0x616D703B m-amp (λ q. omega arith) in
-      let z-rlm = mark-off rlm four 0x726C6D3B m-rlm (λ q. omega arith) in
-      let z-nbsp = mark-off nbsp five 0x6E6273703B m-nbsp (λ q. omega arith) in
-      found s p h _ 4 (omega arith) (long-lrm s p h (omega arith) (omega arith) (omega arith) (omega arith))
-
-  told-rlm : (rlm ≡ 1) × (four ≡ 0x726C6D3B) → Told
-  told-rlm y =
-      let z-lt = mark-off lt three 0x6C743B m-lt (λ q. omega arith) in
-      let z-gt = mark-off gt three 0x67743B m-gt (λ q. omega arith) in
-      let z-amp = mark-off amp four 0x616D703B m-amp (λ q. omega arith) in
-      let z-lrm = mark-off lrm four 0x6C726D3B m-lrm (λ q. omega arith) in
-      let z-nbsp = mark-off nbsp five 0x6E6273703B m-nbsp (λ q. omega arith) in
-      found s p h _ 4 (omega arith) (long-rlm s p h (omega arith) (omega arith) (omega arith) (omega arith))
-
-  told-nbsp : (nbsp ≡ 1) × (five ≡ 0x6E6273703B) → Told
-  told-nbsp y =
-      let z-lt = mark-off lt three 0x6C743B m-lt (λ q. omega arith) in
-      let z-gt = mark-off gt three 0x67743B m-gt (λ q. omega arith) in
-      let z-amp = mark-off amp four 0x616D703B m-amp (λ q. omega arith) in
-      let z-lrm = mark-off lrm four 0x6C726D3B m-lrm (λ q. omega arith) in
-      let z-rlm = mark-off rlm four 0x726C6D3B m-rlm (λ q. omega arith) in
-      found s p h _ 5 (omega arith) (long-nbsp s p h (omega arith) (omega arith) (omega arith) (omega arith) (omega arith))
-
   pub length-told : Told
+  unfolding Sum away
   length-told =
-      ⊎-elim (λ z-lt. ⊎-elim (λ z-gt. ⊎-elim (λ z-amp. ⊎-elim (λ z-lrm. ⊎-elim (λ z-rlm. ⊎-elim (λ z-nbsp. inl (omega arith)) told-nbsp (mark-cases nbsp five 0x6E6273703B m-nbsp)) told-rlm (mark-cases rlm four 0x726C6D3B m-rlm)) told-lrm (mark-cases lrm four 0x6C726D3B m-lrm)) told-amp (mark-cases amp four 0x616D703B m-amp)) told-gt (mark-cases gt three 0x67743B m-gt)) told-lt (mark-cases lt three 0x6C743B m-lt)
+      let two = a * 256 + b in
+      let nothing : Sum s p h two [] 0 = (inl refl, λ q. refl) in
+      let r₁ = more s p h two 5 nbsp five 0x6E6273703B 0x6E62 [] 0 m-nbsp (λ q. omega arith) refl (λ q. long-nbsp s p h (omega arith) (omega arith) (omega arith) (omega arith) (omega arith)) nothing in
+      let r₂ = more s p h two 4 rlm four 0x726C6D3B 0x726C (0x6E62 ∷ []) (5 * nbsp + 0) m-rlm (λ q. omega arith) refl (λ q. long-rlm s p h (omega arith) (omega arith) (omega arith) (omega arith)) r₁ in
+      let r₃ = more s p h two 4 lrm four 0x6C726D3B 0x6C72 (0x726C ∷ 0x6E62 ∷ []) (4 * rlm + (5 * nbsp + 0)) m-lrm (λ q. omega arith) refl (λ q. long-lrm s p h (omega arith) (omega arith) (omega arith) (omega arith)) r₂ in
+      let r₄ = more s p h two 4 amp four 0x616D703B 0x616D (0x6C72 ∷ 0x726C ∷ 0x6E62 ∷ []) (4 * lrm + (4 * rlm + (5 * nbsp + 0))) m-amp (λ q. omega arith) refl (λ q. long-amp s p h (omega arith) (omega arith) (omega arith) (omega arith)) r₃ in
+      let r₅ = more s p h two 3 gt three 0x67743B 0x6774 (0x616D ∷ 0x6C72 ∷ 0x726C ∷ 0x6E62 ∷ []) (4 * amp + (4 * lrm + (4 * rlm + (5 * nbsp + 0)))) m-gt (λ q. omega arith) refl (λ q. long-gt s p h (omega arith) (omega arith) (omega arith)) r₄ in
+      let r₆ = more s p h two 3 lt three 0x6C743B 0x6C74 (0x6774 ∷ 0x616D ∷ 0x6C72 ∷ 0x726C ∷ 0x6E62 ∷ []) (3 * gt + (4 * amp + (4 * lrm + (4 * rlm + (5 * nbsp + 0))))) m-lt (λ q. omega arith) refl (λ q. long-lt s p h (omega arith) (omega arith) (omega arith)) r₅ in
+      subst (Found s p) (omega arith) (r₆ .0)
