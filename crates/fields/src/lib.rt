@@ -1,4 +1,6 @@
 // Big-endian numbers of 1, 2 and 4 bytes, read from a slice and stored into one.
+#![tactic(auto)]
+
 ghost use Rattle.std.specs.Prelude.{◌≡◌, ◌+◌, ◌≤◌, ◌<◌, length};
 ghost use Rattle.base.specs.Over.{wrote};
 ghost use Rattle.fields.specs.BigEndian.{be, bytes};

@@ -1,4 +1,6 @@
 // A refusal and a verdict: how every judgement of the library answers. Refusals are built here and nowhere else.
+#![tactic(auto)]
+
 ghost use Rattle.std.specs.Prelude.{◌≡◌};
 ghost use Rattle.verdict.specs.Judgement.{fault, bad_text, moved, refuse, text_at};
 
