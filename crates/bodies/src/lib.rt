@@ -8,7 +8,7 @@ use boxes::{Step, step_at, stopped_by};
 use verdict::{Refusal, Verdict, refused};
 
 // Where the body of a box begins, if the box is there; or the refusal of a header before it.
-#[derive(Drop)]
+#[derive(Clone, Copy)]
 pub enum Body {
     At(usize),
     Refused(Refusal),

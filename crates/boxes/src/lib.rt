@@ -7,7 +7,7 @@ use fields::get32;
 use verdict::{Refusal, Verdict, fault_at};
 
 // What stands at a place of a container.
-#[derive(Drop)]
+#[derive(Clone, Copy)]
 pub enum Step {
     // A whole box: its type, where its body begins, and the place after it.
     Box { kind: u32, body: usize, next: usize },

@@ -60,14 +60,14 @@ use wvtt_entry::Entry as WvttEntry;
 use wvtt_entry_write::Written;
 
 #[repr(C)]
-#[derive(Drop)]
+#[derive(Clone, Copy)]
 pub struct CaptionsCount {
     pub refusal: Refusal,
     pub characters: usize,
 }
 
 #[repr(C)]
-#[derive(Drop)]
+#[derive(Clone, Copy)]
 pub struct CaptionsStep {
     pub refusal: Refusal,
     pub found: bool,
@@ -77,7 +77,7 @@ pub struct CaptionsStep {
 }
 
 #[repr(C)]
-#[derive(Drop)]
+#[derive(Clone, Copy)]
 pub struct CaptionsCue {
     pub refusal: Refusal,
     pub found: bool,
@@ -93,7 +93,7 @@ pub struct CaptionsCue {
 }
 
 #[repr(C)]
-#[derive(Drop)]
+#[derive(Clone, Copy)]
 pub struct CaptionsPacked {
     pub refusal: Refusal,
     pub samples: usize,
@@ -102,7 +102,7 @@ pub struct CaptionsPacked {
 }
 
 #[repr(C)]
-#[derive(Drop)]
+#[derive(Clone, Copy)]
 pub struct CaptionsUnpacked {
     pub refusal: Refusal,
     pub record_bytes: usize,
@@ -111,7 +111,7 @@ pub struct CaptionsUnpacked {
 }
 
 #[repr(C)]
-#[derive(Drop)]
+#[derive(Clone, Copy)]
 pub struct CaptionsDropped {
     pub refusal: Refusal,
     pub samples: usize,
@@ -120,7 +120,7 @@ pub struct CaptionsDropped {
 }
 
 #[repr(C)]
-#[derive(Drop)]
+#[derive(Clone, Copy)]
 pub struct CaptionsVttRead {
     pub refusal: Refusal,
     pub cues: usize,
@@ -129,7 +129,7 @@ pub struct CaptionsVttRead {
 }
 
 #[repr(C)]
-#[derive(Drop)]
+#[derive(Clone, Copy)]
 pub struct CaptionsVttWritten {
     pub refusal: Refusal,
     pub who: u32,
@@ -137,14 +137,14 @@ pub struct CaptionsVttWritten {
 }
 
 #[repr(C)]
-#[derive(Drop)]
+#[derive(Clone, Copy)]
 pub struct CaptionsChecked {
     pub refusal: Refusal,
     pub who: u32,
 }
 
 #[repr(C)]
-#[derive(Drop)]
+#[derive(Clone, Copy)]
 pub struct CaptionsWvttEntry {
     pub refusal: Refusal,
     pub data_reference_index: u32,
@@ -156,14 +156,14 @@ pub struct CaptionsWvttEntry {
 }
 
 #[repr(C)]
-#[derive(Drop)]
+#[derive(Clone, Copy)]
 pub struct CaptionsWritten {
     pub refusal: Refusal,
     pub bytes: usize,
 }
 
 #[repr(C)]
-#[derive(Drop)]
+#[derive(Clone, Copy)]
 pub struct CaptionsTx3gEntry {
     pub refusal: Refusal,
     pub data_reference_index: u32,
@@ -190,7 +190,7 @@ pub struct CaptionsTx3gEntry {
 }
 
 #[repr(C)]
-#[derive(Drop)]
+#[derive(Clone, Copy)]
 pub struct CaptionsFont {
     pub found: bool,
     pub id: u32,
@@ -199,7 +199,7 @@ pub struct CaptionsFont {
 }
 
 #[repr(C)]
-#[derive(Drop)]
+#[derive(Clone, Copy)]
 pub struct CaptionsTx3gSample {
     pub refusal: Refusal,
     pub who: u32,
@@ -214,7 +214,7 @@ pub struct CaptionsTx3gSample {
 }
 
 #[repr(C)]
-#[derive(Drop)]
+#[derive(Clone, Copy)]
 pub struct CaptionsStyle {
     pub refusal: Refusal,
     pub who: u32,
@@ -230,7 +230,7 @@ pub struct CaptionsStyle {
 }
 
 #[repr(C)]
-#[derive(Drop)]
+#[derive(Clone, Copy)]
 pub struct CaptionsTx3gConverted {
     pub refusal: Refusal,
     pub who: u32,
@@ -249,7 +249,7 @@ pub struct CaptionsTx3gConverted {
 }
 
 #[repr(C)]
-#[derive(Drop)]
+#[derive(Clone, Copy)]
 pub struct CaptionsRun {
     pub found: bool,
     pub styled: bool,
@@ -267,7 +267,7 @@ pub struct CaptionsRun {
 }
 
 #[repr(C)]
-#[derive(Drop)]
+#[derive(Clone, Copy)]
 pub struct CaptionsTextBox {
     pub refusal: Refusal,
     pub who: u32,
@@ -281,7 +281,7 @@ pub struct CaptionsTextBox {
 
 // A modifier by the type of its box. What its numbers are, and what stands from `from` on, is said at `captions_tx3g_next_modifier`.
 #[repr(C)]
-#[derive(Drop)]
+#[derive(Clone, Copy)]
 pub struct CaptionsModifier {
     pub refusal: Refusal,
     pub found: bool,

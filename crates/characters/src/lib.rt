@@ -13,7 +13,7 @@ use utf8::{Rule, judge_rule};
 use viable::Judged;
 
 // A text's characters.
-#[derive(Drop)]
+#[derive(Clone, Copy)]
 pub enum Counted {
     Characters(usize),
     // Bytes that are neither UTF-8 nor UTF-16 after its mark, and the first bad one.

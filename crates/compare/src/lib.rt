@@ -1,4 +1,6 @@
 // Bytes and numbers that are compared.
+#![tactic(auto)]
+
 ghost use Rattle.std.specs.Prelude.{◌≡◌, min};
 ghost use Rattle.base.specs.Choice.{same_list};
 

@@ -26,21 +26,21 @@ use verdict::{Refusal, Verdict, refused};
 use wvtt_cues::{Held, Part, Parts, next_cue};
 
 // The ticks of a sample: from `begin` to before `end`.
-#[derive(Drop)]
+#[derive(Clone, Copy)]
 pub struct Stretch {
     pub begin: u64,
     pub end: u64,
 }
 
 // The records that a sample is held against: those before `first` have ended, those from `last` on start later.
-#[derive(Drop)]
+#[derive(Clone, Copy)]
 pub struct Window {
     pub first: usize,
     pub last: usize,
 }
 
 // How a record stands to a stretch: it runs at no tick of it, at each, or at some only.
-#[derive(Drop)]
+#[derive(Clone, Copy)]
 pub enum Stand {
     Out,
     Whole,
@@ -48,14 +48,14 @@ pub enum Stand {
 }
 
 // What a record finds in a sample: all is well up to a place, or it differs.
-#[derive(Drop)]
+#[derive(Clone, Copy)]
 pub enum Met {
     On { next: usize },
     Differs,
 }
 
 // What the check answers: the track shows the list's cues, or whose fault it is that it does not.
-#[derive(Drop)]
+#[derive(Clone, Copy)]
 pub enum Checked {
     Passed,
     BadList(Refusal),

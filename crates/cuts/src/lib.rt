@@ -10,14 +10,14 @@ use times::tick_of;
 use wvtt_write::cue_size;
 
 // The next cut so far, and the bytes of the cues so far.
-#[derive(Drop)]
+#[derive(Clone, Copy)]
 pub struct Scan {
     pub next: u64,
     pub cues: usize,
 }
 
 // A stretch from some begin: the window of records that can run there, the next cut, and the bytes of its cues.
-#[derive(Drop)]
+#[derive(Clone, Copy)]
 pub struct Stretch {
     pub first: usize,
     pub last: usize,
@@ -26,7 +26,7 @@ pub struct Stretch {
 }
 
 // How many samples there are, and their bytes.
-#[derive(Drop)]
+#[derive(Clone, Copy)]
 pub struct Extent {
     pub count: usize,
     pub bytes: usize,

@@ -1,4 +1,6 @@
 // Decimal numbers, written into a slice.
+#![tactic(auto)]
+
 ghost use Rattle.std.specs.Prelude.{◌≡◌, ◌+◌, ◌≤◌, length};
 ghost use Rattle.base.specs.Over.{wrote};
 ghost use Rattle.decimal.specs.Decimal.{decimal};

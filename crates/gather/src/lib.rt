@@ -14,14 +14,14 @@ use table::{duration_at, size_at};
 use wvtt_cues::{Held, next_cue};
 
 // After a cue: how many are known and the least row that may come next in the sample, or the number of a fault.
-#[derive(Drop)]
+#[derive(Clone, Copy)]
 pub enum Took {
     Goes { count: usize, least: usize },
     Stops(u32),
 }
 
 // How many cues a track has and the sum of its durations, or a number and the sample at fault.
-#[derive(Drop)]
+#[derive(Clone, Copy)]
 pub enum Gathered {
     All { count: usize, total: usize },
     Fault { number: u32, place: usize },

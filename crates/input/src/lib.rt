@@ -7,7 +7,7 @@ ghost use Rattle.input.specs.Reads.{is_wrong, chunk_of};
 use compare::least;
 
 // How far the line is read, with the numbers so far. A number above 4294967295 counts as that.
-#[derive(Drop)]
+#[derive(Clone, Copy)]
 pub enum Reading {
     Start,
     Scale(u32),
@@ -18,14 +18,14 @@ pub enum Reading {
 }
 
 // The line: its two numbers, or not of that form.
-#[derive(Drop)]
+#[derive(Clone, Copy)]
 pub enum Line {
     Numbers { scale: u32, t: u32 },
     Bad,
 }
 
 // What a read leaves: how far the line is read, and whether there is no more to read.
-#[derive(Drop)]
+#[derive(Clone, Copy)]
 pub struct Chunk {
     pub state: Reading,
     pub last: bool,

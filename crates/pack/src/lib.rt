@@ -19,7 +19,7 @@ use verdict::{Refusal, Verdict, fault_at};
 use wvtt_write::{put_cue, put_empty};
 
 // How many samples were written, and the bytes of the table and of the samples; or why nothing was.
-#[derive(Drop)]
+#[derive(Clone, Copy)]
 pub enum Packed {
     Done {
         samples: usize,

@@ -1,7 +1,7 @@
 // The tag profile of payloads: its grammar, the judge as a machine, and the theorems. Document 02, K11. The values here are what the readers share with them.
 
 // The tags: b i u c v lang ruby rt
-#[derive(Drop)]
+#[derive(Clone, Copy)]
 pub enum Tag {
     Bold,
     Italic,
@@ -14,7 +14,7 @@ pub enum Tag {
 }
 
 // A reader's answer. Past: read up to here. Bad: no text of the profile could have the byte here, or the text ends here too early.
-#[derive(Drop)]
+#[derive(Clone, Copy)]
 pub enum Spot {
     Past(usize),
     Bad(usize),

@@ -15,7 +15,7 @@ use verdict::{Verdict, refused, text_at};
 use viable::Judged;
 
 // A part of a payload is read. On: up to here, and the least time that may come next. Wrong: as Spot::Bad.
-#[derive(Drop)]
+#[derive(Clone, Copy)]
 pub enum Part {
     On { next: usize, low: u32 },
     Wrong(usize),

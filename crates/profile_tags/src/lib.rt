@@ -151,7 +151,7 @@ pub fn read_head(s: &[u8], at: usize, x: Tag) -> Spot
 }
 
 // A start tag's name and the place behind it; or the place of the byte that no name has there.
-#[derive(Drop)]
+#[derive(Clone, Copy)]
 pub enum Named {
     Found { next: usize, tag: Tag },
     Wrong(usize),

@@ -3,7 +3,7 @@ ghost use Rattle.std.specs.Prelude.{◌≡◌, true, ◌+◌, ◌<◌, ◌≤◌
 ghost use Rattle.profile_times.specs.Terms.{TimeIs, Told, Fits};
 
 // The place behind a timestamp, and its milliseconds; or the first place where no timestamp of at least `low` can have its byte, or where the text ends.
-#[derive(Drop)]
+#[derive(Clone, Copy)]
 pub enum Stamped {
     Time { next: usize, time: u32 },
     Amiss(usize),

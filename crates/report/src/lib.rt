@@ -10,7 +10,7 @@ use listing::{put_refusal, put_rows};
 use pack::{Packed, pack};
 
 // What C answered for a file: the descriptor of the open, how many bytes of it stand in the buffer, and what a read behind them answered.
-#[derive(Drop)]
+#[derive(Clone, Copy)]
 pub struct Taken {
     pub fd: i32,
     pub n: usize,

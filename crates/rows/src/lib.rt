@@ -10,7 +10,7 @@ use compare::same_bytes;
 use wvtt_cues::{Part, Parts};
 
 // A cue that is known.
-#[derive(Drop)]
+#[derive(Clone, Copy)]
 pub struct Row {
     pub id: usize,
     pub start: usize,

@@ -1,7 +1,7 @@
 // What a cue's settings say: where it stands, how wide it is, how it is aligned. The grammar of settings, what reading gives and the fixed form, with the theorems. Document 02, K10.
 use verdict::Refusal;
 
-#[derive(Drop)]
+#[derive(Clone, Copy)]
 pub enum Vertical {
     None,
     Rl,
@@ -9,14 +9,14 @@ pub enum Vertical {
 }
 
 // A line by its number, from the top or, negative, from the bottom; or a percentage in hundredths.
-#[derive(Drop)]
+#[derive(Clone, Copy)]
 pub enum Line {
     Auto,
     Number(i16),
     Percent(u16),
 }
 
-#[derive(Drop)]
+#[derive(Clone, Copy)]
 pub enum LineAlign {
     Start,
     Center,
@@ -24,13 +24,13 @@ pub enum LineAlign {
 }
 
 // A percentage in hundredths.
-#[derive(Drop)]
+#[derive(Clone, Copy)]
 pub enum Position {
     Auto,
     Percent(u16),
 }
 
-#[derive(Drop)]
+#[derive(Clone, Copy)]
 pub enum PositionAlign {
     Auto,
     LineLeft,
@@ -38,7 +38,7 @@ pub enum PositionAlign {
     LineRight,
 }
 
-#[derive(Drop)]
+#[derive(Clone, Copy)]
 pub enum Align {
     Start,
     Center,
@@ -48,7 +48,7 @@ pub enum Align {
 }
 
 // All that settings say, but for the region's name, which is lent beside it. The size is a percentage in hundredths.
-#[derive(Drop)]
+#[derive(Clone, Copy)]
 pub struct Settings {
     pub vertical: Vertical,
     pub line: Line,
@@ -60,7 +60,7 @@ pub struct Settings {
 }
 
 // A word of a settings text as it is read. Region: where the name stands in the text.
-#[derive(Drop)]
+#[derive(Clone, Copy)]
 pub enum Parsed {
     Vertical(Vertical),
     Line { at: Line, align: LineAlign },
@@ -72,7 +72,7 @@ pub enum Parsed {
 }
 
 // What was read: the settings, and where the region's name stands in the text; from 0 to 0 where there is none.
-#[derive(Drop)]
+#[derive(Clone, Copy)]
 pub struct Reading {
     pub settings: Settings,
     pub from: usize,
@@ -80,7 +80,7 @@ pub struct Reading {
 }
 
 // The answer of reading.
-#[derive(Drop)]
+#[derive(Clone, Copy)]
 pub enum Read {
     Done(Reading),
     Refused(Refusal),

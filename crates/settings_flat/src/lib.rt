@@ -15,7 +15,7 @@ use wvtt_entry_write::Written;
 
 // What stands beside another kind of line or position is 0 from reading, and not looked at in writing.
 #[repr(C)]
-#[derive(Drop)]
+#[derive(Clone, Copy)]
 pub struct CaptionsSettings {
     pub vertical: u8,
     pub line: u8,
@@ -30,7 +30,7 @@ pub struct CaptionsSettings {
 }
 
 #[repr(C)]
-#[derive(Drop)]
+#[derive(Clone, Copy)]
 pub struct CaptionsSettingsRead {
     pub refusal: Refusal,
     pub settings: CaptionsSettings,

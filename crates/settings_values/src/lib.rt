@@ -15,7 +15,7 @@ use settings::{Align, Line, LineAlign, Parsed, Position, PositionAlign, Vertical
 use timestamps::{Digits, number_of, read_digits};
 
 // A percentage in hundredths, or it is none.
-#[derive(Drop)]
+#[derive(Clone, Copy)]
 pub enum Hundredths {
     Of(u16),
     Wrong,

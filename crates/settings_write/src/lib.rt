@@ -16,7 +16,7 @@ use viable::Judged;
 use wvtt_entry_write::Written;
 
 // A record that can be written: how many bytes its settings have without the region, and how many the form has.
-#[derive(Drop)]
+#[derive(Clone, Copy)]
 enum Form {
     Fits { head: usize, size: usize },
     Unfit,

@@ -8,7 +8,7 @@ ghost use Rattle.signed.specs.Rank.{shift16};
 use fields::{get8, get16};
 
 // A text box: where its edges lie.
-#[derive(Drop)]
+#[derive(Clone, Copy)]
 pub struct Edges {
     pub top: i32,
     pub left: i32,

@@ -13,7 +13,7 @@ use verdict::{Refusal, Verdict, fault_at};
 use wvtt_write::copy_run;
 
 // How many samples are left, and the bytes of the table and of the samples; or why nothing was written.
-#[derive(Drop)]
+#[derive(Clone, Copy)]
 pub enum Dropped {
     Done {
         samples: usize,
@@ -24,7 +24,7 @@ pub enum Dropped {
 }
 
 // Neighbouring samples that last: the row behind the last of them, and their bytes.
-#[derive(Drop)]
+#[derive(Clone, Copy)]
 struct Run {
     end: usize,
     bytes: usize,

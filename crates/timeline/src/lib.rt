@@ -1,1 +1,2 @@
 // No code: cues and tracks on a timeline of ticks, packing, the check and unpacking (specs/), with their theorems (proofs/).
+#![tactic(auto)]

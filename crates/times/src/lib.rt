@@ -1,4 +1,6 @@
 // Times in milliseconds and in ticks, and their limits.
+#![tactic(auto)]
+
 ghost use Rattle.std.specs.Prelude.{◌≡◌, ◌*◌, ◌<◌, ◌≤◌};
 ghost use Rattle.base.specs.Choice.{within};
 ghost use Rattle.times.specs.Times.{tick, back, scale_allowed, timeline_allowed};

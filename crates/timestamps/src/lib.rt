@@ -8,14 +8,14 @@ ghost use Rattle.timestamps.specs.Timestamps.{front, behind, digit, shaped, minu
 use ascii::is_within;
 
 // The milliseconds of a timestamp, at most 360,000,000; or it is none.
-#[derive(Drop)]
+#[derive(Clone, Copy)]
 pub enum Timestamp {
     Ms(u32),
     Malformed,
 }
 
 // The digits that a text begins with: how many, and their number, up to a limit.
-#[derive(Drop)]
+#[derive(Clone, Copy)]
 pub struct Digits {
     pub count: usize,
     pub number: u32,

@@ -9,7 +9,7 @@ use tx3g_sample::{Reading, read_sample, text_end};
 use verdict::Refusal;
 
 // Where the eight bytes stand: at a place of the sample, or in the entry at its fixed place; or the first fault and whose it is.
-#[derive(Drop)]
+#[derive(Clone, Copy)]
 pub enum Spot {
     Sample(usize),
     Entry,

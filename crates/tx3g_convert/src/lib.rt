@@ -25,7 +25,7 @@ use tx3g_tidy::{put_tidy, tidy_length};
 use verdict::{Refusal, Verdict, fault_at, refused};
 
 // How many cues, the lengths of records and pool in bytes, T in milliseconds and the boxes that were dropped; or whose fault it is: the entry's, the track's, or that of a short output.
-#[derive(Drop)]
+#[derive(Clone, Copy)]
 pub enum Converted {
     Done {
         cues: usize,
@@ -40,7 +40,7 @@ pub enum Converted {
 }
 
 // Behind some samples: the sum of their durations, the number of their cues, and the bytes of their texts.
-#[derive(Drop)]
+#[derive(Clone, Copy)]
 struct State {
     tick: usize,
     cues: usize,
@@ -48,7 +48,7 @@ struct State {
 }
 
 // The state behind a sample, or why not.
-#[derive(Drop)]
+#[derive(Clone, Copy)]
 enum Turn {
     On(State),
     Stopped(Refusal),

@@ -11,14 +11,14 @@ use tx3g_contents::{BLNK, HCLR, HLIT, HREF, KROK, STYL, TBOX, TWRP, is_known, ju
 use verdict::{Refusal, Verdict};
 
 // Where bytes stand in a sample: from `from` to before `end`.
-#[derive(Drop)]
+#[derive(Clone, Copy)]
 pub struct Part {
     pub from: usize,
     pub end: usize,
 }
 
 // What a modifier box says: its numbers, and where its records and texts stand.
-#[derive(Drop)]
+#[derive(Clone, Copy)]
 pub enum Modifier {
     // So many styles of 12 bytes each.
     Styles {
@@ -60,7 +60,7 @@ pub enum Modifier {
 }
 
 // The next modifier with the place after it, the refusal of a header, or none.
-#[derive(Drop)]
+#[derive(Clone, Copy)]
 pub enum Held {
     One { modifier: Modifier, next: usize },
     Refused(Refusal),

@@ -21,21 +21,21 @@ use tx3g_runs::{Run, next_run};
 use wvtt_write::copy_run;
 
 // A character's number, and the place behind it.
-#[derive(Drop)]
+#[derive(Clone, Copy)]
 pub struct Character {
     pub code: u32,
     pub next: usize,
 }
 
 // What is left of a character.
-#[derive(Drop)]
+#[derive(Clone, Copy)]
 enum Left {
     Gone,
     Stays(u32),
 }
 
 // A stretch: where it ends and its face flags; then how many styles are left behind it, and where the first of them stands.
-#[derive(Drop)]
+#[derive(Clone, Copy)]
 pub struct Stretch {
     pub end: usize,
     pub face: u32,
@@ -44,14 +44,14 @@ pub struct Stretch {
 }
 
 // The bytes made, and whether the tags of the stretch are among them.
-#[derive(Drop)]
+#[derive(Clone, Copy)]
 struct Put {
     bytes: usize,
     shown: bool,
 }
 
 // Where the making of a stretch stands: the place in the text, how many characters are to come, whether CR, LF or nothing stands before them, and what is made.
-#[derive(Drop)]
+#[derive(Clone, Copy)]
 struct Walk {
     at: usize,
     left: usize,
@@ -61,7 +61,7 @@ struct Walk {
 }
 
 // How far a payload is made: the place in the text, whether CR, LF or nothing stands before it, and the bytes made.
-#[derive(Drop)]
+#[derive(Clone, Copy)]
 struct Made {
     at: usize,
     after: bool,

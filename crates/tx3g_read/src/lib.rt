@@ -16,7 +16,7 @@ use tx3g_sample::{Reading, read_sample, text_end};
 use tx3g_style::{Style, read_style};
 use verdict::{Refusal, Verdict, fault_at};
 
-#[derive(Drop)]
+#[derive(Clone, Copy)]
 pub struct Colour {
     pub red: u32,
     pub green: u32,
@@ -26,7 +26,7 @@ pub struct Colour {
 
 // The fields of an entry: data reference index, display flags, justification, background, default text box and style; how many fonts there are, and
 // where the first stands.
-#[derive(Drop)]
+#[derive(Clone, Copy)]
 pub struct Fields {
     pub index: u32,
     pub flags: u32,
@@ -42,21 +42,21 @@ pub struct Fields {
     pub from: usize,
 }
 
-#[derive(Drop)]
+#[derive(Clone, Copy)]
 pub enum Entry {
     Whole(Fields),
     Refused(Refusal),
 }
 
 // A font: its ID, and where its name stands.
-#[derive(Drop)]
+#[derive(Clone, Copy)]
 pub enum Font {
     Named { id: u32, from: usize, end: usize },
     Missing,
 }
 
 // How a text is encoded, and where it stands without its mark.
-#[derive(Drop)]
+#[derive(Clone, Copy)]
 pub struct Text {
     pub utf16: bool,
     pub from: usize,
@@ -64,14 +64,14 @@ pub struct Text {
 }
 
 // How many styles there are, and where the first stands.
-#[derive(Drop)]
+#[derive(Clone, Copy)]
 pub struct Styles {
     pub count: u32,
     pub from: usize,
 }
 
 // What a sample holds, or the first fault and whose it is.
-#[derive(Drop)]
+#[derive(Clone, Copy)]
 pub enum Content {
     Whole {
         characters: usize,

@@ -8,7 +8,7 @@ use fields::get16;
 use tx3g_style::{Style, read_style};
 
 // A run from a character to before `end`; then how many styles are left behind it, and where the first of them stands.
-#[derive(Drop)]
+#[derive(Clone, Copy)]
 pub enum Run {
     Styled {
         end: usize,

@@ -19,7 +19,7 @@ use tx3g_seen::{Seen, repeats, with_kind};
 use verdict::{Refusal, Verdict, bad_text_at, fault_at, refused};
 
 // What a sample and its entry are read as.
-#[derive(Drop)]
+#[derive(Clone, Copy)]
 pub enum Reading {
     // No fault; the character count of the text.
     Good(usize),
@@ -30,7 +30,7 @@ pub enum Reading {
 }
 
 // What a text is read as.
-#[derive(Drop)]
+#[derive(Clone, Copy)]
 enum Text {
     Whole(usize),
     Bad(Refusal),

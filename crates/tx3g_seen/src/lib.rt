@@ -7,7 +7,7 @@ ghost use Rattle.tx3g_seen.specs.Seen.{Marks};
 
 use tx3g_contents::{DLAY, HCLR, KROK, STYL, TBOX, TWRP};
 
-#[derive(Drop)]
+#[derive(Clone, Copy)]
 pub struct Seen {
     pub styl: bool,
     pub hclr: bool,

@@ -15,7 +15,7 @@ use tx3g_sample::{judge_beside, text_end};
 use verdict::Verdict;
 
 // How many boxes of each kind; `blnk` is retired.
-#[derive(Drop)]
+#[derive(Clone, Copy)]
 pub struct Counts {
     pub hlit: usize,
     pub retired_blinking: usize,

@@ -11,7 +11,7 @@ use tx3g_sample::{Reading, read_sample, text_end};
 use verdict::{Refusal, Verdict, fault_at};
 
 // A style: characters from `start` to before `end`, font ID, face flags, size and colour.
-#[derive(Drop)]
+#[derive(Clone, Copy)]
 pub struct Style {
     pub start: u32,
     pub end: u32,
@@ -25,7 +25,7 @@ pub struct Style {
 }
 
 // The style, or the first fault and whose it is.
-#[derive(Drop)]
+#[derive(Clone, Copy)]
 pub enum Styled {
     Found(Style),
     BadEntry(Refusal),

@@ -15,14 +15,14 @@ use unpack_write::{pool_size, put_rows};
 use verdict::{Refusal, Verdict, fault_at, refused};
 
 // The lengths of records and pool in bytes and T in milliseconds, or a refusal.
-#[derive(Drop)]
+#[derive(Clone, Copy)]
 pub enum Unpacked {
     Done { records: usize, pool: usize, t: u32 },
     Refused(Refusal),
 }
 
 // What a track was read as: the number of its cues, gathered as rows, and the sum of its durations; or why it was not.
-#[derive(Drop)]
+#[derive(Clone, Copy)]
 enum Listed {
     Rows { count: usize, total: usize },
     Stopped(Refusal),

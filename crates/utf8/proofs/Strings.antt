@@ -36,6 +36,7 @@ split-any (p ∷ ps) s h =
 
 begins-any : (ps : List (List ℕ)) (p b : List ℕ) → Memᴰ p ps → starts_with_any ps (p ++ b) ≡ true
 unfolding starts_with_any
+begins-any [] p b x = elim x [ ]
 begins-any (q ∷ ps) p b (Memᴰ.head e) = rw (← e, begins p b)
 begins-any (q ∷ ps) p b (Memᴰ.tail m) = rw (begins-any ps p b m) (one-of-yes (starts_with q (p ++ b)))
 

@@ -1,4 +1,6 @@
 // UTF-8 by a table of byte classes, with the strings that a text's rule forbids.
+#![tactic(auto)]
+
 mod tables;
 
 ghost use Rattle.std.specs.Prelude.{◌≡◌, ◌+◌, ◌<◌, ◌≤◌, eqb, length};
@@ -15,7 +17,7 @@ use tables::{CLASSES, WORDS};
 use viable::Judged;
 
 // What a text may not hold.
-#[derive(Drop)]
+#[derive(Clone, Copy)]
 pub enum Rule {
     // Nothing is forbidden.
     Any,
@@ -26,7 +28,7 @@ pub enum Rule {
 }
 
 // What the machine comes to over some bytes.
-#[derive(Drop)]
+#[derive(Clone, Copy)]
 enum Passed {
     // The state after them.
     To(usize),

@@ -8,7 +8,7 @@ use viable::Judged;
 
 // Why and where: a number of document 01's table, a place, and document 02's second place: the offset of the first bad byte in a bad text (6), 0 beside every other number.
 #[repr(C)]
-#[derive(Drop)]
+#[derive(Clone, Copy)]
 pub struct Refusal {
     pub number: u32,
     pub place: usize,
@@ -16,7 +16,7 @@ pub struct Refusal {
 }
 
 // What a judgement says: nothing is wrong, or the first fault in document 01's order.
-#[derive(Drop)]
+#[derive(Clone, Copy)]
 pub enum Verdict {
     Fine,
     Refused(Refusal),

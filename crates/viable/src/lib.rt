@@ -2,7 +2,7 @@
 // still become a right text.
 #![tactic(auto)]
 
-#[derive(Drop)]
+#[derive(Clone, Copy)]
 pub enum Judged {
     // The text keeps its rule.
     Right,

@@ -10,7 +10,7 @@ use vtt_timing::{Answer, is_blank, is_blank_from, read_timing};
 
 // A cue: where its identifier ends, which begins at the block; its times in milliseconds, at most 360,000,000; where its settings stand; the number of its timing
 // line, and where the line behind that begins.
-#[derive(Drop)]
+#[derive(Clone, Copy)]
 pub struct Place {
     pub identifier: usize,
     pub start: u32,
@@ -22,7 +22,7 @@ pub struct Place {
 }
 
 // What stands at the place of a line.
-#[derive(Drop)]
+#[derive(Clone, Copy)]
 pub enum Found {
     // An empty line, and the place and number of the next.
     Empty { at: usize, line: usize },

@@ -10,14 +10,14 @@ ghost use Rattle.vtt_lines.specs.Cursor.{low, high, end_size, end_at, found_at, 
 use utf8::is_line_end;
 
 // A place in a text, and the number of the line there.
-#[derive(Drop)]
+#[derive(Clone, Copy)]
 pub struct Cursor {
     pub at: usize,
     pub line: usize,
 }
 
 // Where a line ends, where the next one begins, and the next one's number.
-#[derive(Drop)]
+#[derive(Clone, Copy)]
 pub struct Line {
     pub end: usize,
     pub next: usize,
@@ -25,7 +25,7 @@ pub struct Line {
 }
 
 // The place and number of the line behind those that were passed, and whether one of them holds `-->`.
-#[derive(Drop)]
+#[derive(Clone, Copy)]
 pub struct Passed {
     pub at: usize,
     pub line: usize,
@@ -33,7 +33,7 @@ pub struct Passed {
 }
 
 // The length of the lines joined, and the place and number of the line behind them.
-#[derive(Drop)]
+#[derive(Clone, Copy)]
 pub struct Gathered {
     pub length: usize,
     pub at: usize,
@@ -80,7 +80,7 @@ fn pass_inside(s: &[u8], at: usize) -> usize
 }
 
 // The length of the lines joined, the end of the last, whether they stand so in the text, and the place and number of the line behind them.
-#[derive(Drop)]
+#[derive(Clone, Copy)]
 pub struct Scanned {
     pub length: usize,
     pub end: usize,

@@ -18,7 +18,7 @@ use vtt_lines::{Scanned, gather, line_from, pass_empty, pass_lines, scan};
 use wvtt_cues::Part;
 
 // How many cues, and the lengths of records and pool in bytes; or a refusal.
-#[derive(Drop)]
+#[derive(Clone, Copy)]
 pub enum FileRead {
     Done {
         cues: usize,
@@ -29,7 +29,7 @@ pub enum FileRead {
 }
 
 // Where reading stands: the place and number of a line, the number of cues before it, the last one's start, and the bytes of their texts.
-#[derive(Drop)]
+#[derive(Clone, Copy)]
 struct State {
     at: usize,
     line: usize,
@@ -39,7 +39,7 @@ struct State {
 }
 
 // The state behind what was judged, or why not.
-#[derive(Drop)]
+#[derive(Clone, Copy)]
 enum Turn {
     On(State),
     Stopped(Refusal),

@@ -11,7 +11,7 @@ use timestamps::{Timestamp, read_timestamp};
 use vtt_lines::is_arrow;
 
 // Times in milliseconds, at most 360,000,000, and where the settings stand in the line; or it is no timing line.
-#[derive(Drop)]
+#[derive(Clone, Copy)]
 pub enum Answer {
     Times {
         start: u32,
@@ -23,7 +23,7 @@ pub enum Answer {
 }
 
 // A run of bytes: spaces and tabs; all others; spaces, tabs and form feeds.
-#[derive(Drop)]
+#[derive(Clone, Copy)]
 pub enum Run {
     Blanks,
     Word,

@@ -20,7 +20,7 @@ use timestamps::put_timestamp;
 use verdict::{Refusal, Verdict, fault_at, text_at};
 
 // The bytes of a file; or whose fault it is that there is none.
-#[derive(Drop)]
+#[derive(Clone, Copy)]
 pub enum FileWritten {
     Done(usize),
     BadConfiguration(Refusal),

@@ -29,7 +29,7 @@ pub const STTG: u32 = 0x73747467;
 pub const PAYL: u32 = 0x7061796C;
 
 // Which boxes of a cue have been there.
-#[derive(Drop)]
+#[derive(Clone, Copy)]
 pub struct Seen {
     pub vsid: bool,
     pub iden: bool,

@@ -10,14 +10,14 @@ use verdict::{Refusal, Verdict};
 use wvtt::{IDEN, PAYL, STTG, VSID, VTTC};
 
 // Where bytes stand in a sample: from `from` to before `end`.
-#[derive(Drop)]
+#[derive(Clone, Copy)]
 pub struct Part {
     pub from: usize,
     pub end: usize,
 }
 
 // A cue: its ID, if it is named, and where its three texts stand.
-#[derive(Drop)]
+#[derive(Clone, Copy)]
 pub struct Parts {
     pub named: bool,
     pub id: u32,
@@ -27,14 +27,14 @@ pub struct Parts {
 }
 
 // What the boxes of a cue give: its parts, or the refusal of a header.
-#[derive(Drop)]
+#[derive(Clone, Copy)]
 pub enum Inner {
     Whole(Parts),
     Refused(Refusal),
 }
 
 // The next cue with the place after it, the refusal of a header, or none.
-#[derive(Drop)]
+#[derive(Clone, Copy)]
 pub enum Held {
     Cue { parts: Parts, next: usize },
     Refused(Refusal),
@@ -42,7 +42,7 @@ pub enum Held {
 }
 
 // Where the bodies of a cue's boxes stand.
-#[derive(Drop)]
+#[derive(Clone, Copy)]
 pub struct Places {
     pub vsid: Part,
     pub iden: Part,

@@ -19,21 +19,21 @@ pub const CONFIGURATION: u32 = 0x76747443;
 pub const LABEL: u32 = 0x766C6162;
 
 // Where bytes stand in an entry: from `from` to before `end`.
-#[derive(Drop)]
+#[derive(Clone, Copy)]
 pub struct Part {
     pub from: usize,
     pub end: usize,
 }
 
 // Whether a box is there, and where its body stands; 0 and 0 where it is not.
-#[derive(Drop)]
+#[derive(Clone, Copy)]
 pub struct Found {
     pub there: bool,
     pub part: Part,
 }
 
 // The data reference index, and where the texts of the configuration and of the label stand; 0 and 0 where there is no label.
-#[derive(Drop)]
+#[derive(Clone, Copy)]
 pub enum Entry {
     Whole {
         index: u32,

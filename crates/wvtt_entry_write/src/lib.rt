@@ -12,7 +12,7 @@ use wvtt_entry::{CONFIGURATION, LABEL, WVTT};
 use wvtt_write::{put_header, put_text};
 
 // The bytes of an entry; or why there is none.
-#[derive(Drop)]
+#[derive(Clone, Copy)]
 pub enum Written {
     Done(usize),
     Refused(Refusal),

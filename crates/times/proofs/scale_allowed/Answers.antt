@@ -1,0 +1,7 @@
+-- `times::scale_allowed` meets its contract, by the definition.
+use Rattle.times.specs.Times.{scale_allowed}
+use Rattle.times.proofs.scale_allowed.Goals as goal
+
+pub returns : goal.returns
+unfolding scale_allowed
+returns c = c.is_within.ensures
