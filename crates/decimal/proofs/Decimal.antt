@@ -33,7 +33,7 @@ decimal-more n h k = decimal-is n k ∙ ap (λ (b : Bool). last_behind b n (λ _
 pub value-append : (v : ℕ) (a b : List ℕ) → value_from v (a ++ b) ≡ value_from (value_from v a) b
 unfolding value_from
 value-append v [] b = refl
-value-append v (d ∷ a) b = value-append _ a b
+value-append v (d ∷ a) b = value-append (v * 10 + (d - 48)) a b
 
 digits_value : (f n : ℕ) → n < 10 ^ f → value_from 0 (digits f n) ≡ n
 unfolding digits value_from
