@@ -127,8 +127,8 @@ NoBox (Stopped r) = Unit {0}
 NoBox End = Unit {0}
 
 -- in the `else` of `let Step::Box { .. } = t else`
-pub not-box : (t : Step) → OneOf (1 ∷ 2 ∷ []) (tag_of (declared Step-enum) t) → NoBox t
-not-box (Box k b n) h = ⊎_elim (λ z. absurd (omega arith)) (λ z. absurd (omega arith)) h
+pub not-box : (t : Step) → ((k b n : ℕ) → t ≡ Box k b n → ⊥) → NoBox t
+not-box (Box k b n) h = absurd (h k b n refl)
 not-box (Stopped r) h = tt
 not-box End h = tt
 

@@ -1,4 +1,6 @@
 // The boxes of a container: a step from one to the next, and a pass over all of them.
+#![tactic(auto)]
+
 ghost use Rattle.std.specs.Prelude.{◌≡◌, ◌≤◌, length, eqb};
 ghost use Rattle.base.specs.Choice.{any_of};
 ghost use Rattle.boxes.specs.Boxes.{step_at, stopped_by, boxes_in, passed};

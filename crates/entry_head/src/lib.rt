@@ -1,4 +1,6 @@
 // What sample entries of all types have in common: a size, a type, and fixed fields.
+#![tactic(auto)]
+
 ghost use Rattle.std.specs.Prelude.{◌≡◌, ◌≤◌};
 ghost use Rattle.entry_head.specs.Head.{judge_head};
 

@@ -1,4 +1,6 @@
 // The program's input line: scale and T in decimal, a space between, LF after, and nothing else. It is read in chunks.
+#![tactic(auto)]
+
 ghost use Rattle.std.specs.Prelude.{◌≡◌, true};
 ghost use Rattle.input.specs.Line.{is_digit};
 ghost use Rattle.input.specs.Reading.{grown, stepped, fed, line_at};

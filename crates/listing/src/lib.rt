@@ -1,4 +1,6 @@
 // The program's output: a line for each record of a sample table, or one line for a refusal.
+#![tactic(auto)]
+
 ghost use Rattle.std.specs.Prelude.{◌≡◌, ◌+◌, ◌*◌, ◌≤◌, length};
 ghost use Rattle.base.specs.Over.{over, wrote};
 ghost use Rattle.listing.specs.Listing.{number_text, pair_text, row_text, rows_text, word, refusal_text};

@@ -1,4 +1,6 @@
 // Cue records: 24 bytes each, no header, with their texts in a pool.
+#![tactic(auto)]
+
 ghost use Rattle.std.specs.Prelude.{◌≡◌, ◌+◌, ◌*◌, ◌≤◌, ◌<◌, length};
 ghost use Rattle.records.specs.Records.{source_id, start_ms, end_ms, text_offset, identifier_length, settings_length, payload_length, reserved};
 ghost use Rattle.records.specs.Records.{settings_offset, payload_offset, texts_end};

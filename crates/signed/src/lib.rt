@@ -1,4 +1,6 @@
 // Signed fields of 16 and 8 bits, in two's complement: a text box, and a justification.
+#![tactic(auto)]
+
 ghost use Rattle.std.specs.Prelude.{◌≡◌, ◌+◌, ◌≤◌, ◌<◌, length};
 ghost use Rattle.std.specs.Int.Signed.{le_z};
 ghost use Rattle.fields.specs.BigEndian.{be};

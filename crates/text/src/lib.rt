@@ -1,4 +1,6 @@
 // The rules of document 01's texts. A text is right, or a judgement names its first bad byte (document 02, K2).
+#![tactic(auto)]
+
 ghost use Rattle.std.specs.Prelude.{◌≡◌, true, ◌≤◌, length};
 ghost use Rattle.ascii.specs.Ascii.{unmarked, all};
 ghost use Rattle.viable.specs.FirstBad.{judged_by};

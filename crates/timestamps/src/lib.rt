@@ -1,4 +1,6 @@
 // WebVTT timestamps.
+#![tactic(auto)]
+
 ghost use Rattle.std.specs.Prelude.{◌≡◌, true, [], ◌∷◌, ◌++◌, ◌+◌, ◌-◌, ◌≤◌, min, length, take, drop, get_or};
 ghost use Rattle.base.specs.Choice.{both, within};
 ghost use Rattle.base.specs.Over.{wrote};

@@ -1,4 +1,6 @@
 // The lines of a WebVTT file: a cursor that passes them and counts them, and what a block's lines hold.
+#![tactic(auto)]
+
 ghost use Rattle.std.specs.Prelude.{◌≡◌, true, ◌+◌, ◌-◌, ◌^◌, ◌≤◌, ◌<◌, leb, length, drop};
 ghost use Rattle.base.specs.Choice.{pick, both, any_of};
 ghost use Rattle.ascii.specs.Ascii.{all};

@@ -1,0 +1,7 @@
+-- `records::payload_offset` meets its contract: a sum that never wraps.
+use native.Mathlib.Omega.{arith}
+use Rattle.records.proofs.Laws.{in_order}
+use Rattle.records.proofs.payload_offset.Goals as goal
+
+pub returns : goal.returns
+returns c = omega (arith, in_order c.args.records.now c.args.i)
