@@ -1,4 +1,6 @@
 // Where the body of a box stands: the first box of a kind, in the boxes from a place to the end.
+#![tactic(auto)]
+
 ghost use Rattle.std.specs.Prelude.{◌≡◌, length};
 ghost use Rattle.boxes.specs.Boxes.{boxes_in, stopped_by};
 ghost use Rattle.bodies.specs.Terms.{missing};

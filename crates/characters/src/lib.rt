@@ -1,4 +1,6 @@
 // The characters of a 3GPP text: UTF-16 after the mark FE FF, else UTF-8.
+#![tactic(auto)]
+
 ghost use Rattle.std.specs.Prelude.{◌≡◌, true, ◌+◌, ◌-◌, ◌≤◌, length};
 ghost use Rattle.base.specs.Choice.{pick};
 ghost use Rattle.viable.specs.FirstBad.{judged_by};

@@ -1,4 +1,6 @@
 // The judgement of a caption and of a list of cue records.
+#![tactic(auto)]
+
 ghost use Rattle.std.specs.Prelude.{◌≡◌, ◌+◌, ◌*◌, ◌≤◌, ◌<◌, length};
 ghost use Rattle.verdict.specs.Judgement.{each};
 ghost use Rattle.records.specs.Records.{texts_end};

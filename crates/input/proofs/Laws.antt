@@ -42,20 +42,18 @@ pub fed-end : (r q : Reading) (s : List ℕ) (i : ℕ) → length s ≤ i → fe
 unfolding fed
 fed-end r q s i h e = ap (fed r) (sym (drop_of_length-le s h)) ∙ e
 
-pub not-whole : (r : Reading) → OneOf (0 ∷ 1 ∷ 2 ∷ 3 ∷ 5 ∷ []) (tag_of (declared Reading-enum) r) → Bad ≡ line_at r
+pub not-whole : (r : Reading) → ((v w : ℕ) → r ≡ Whole v w → ⊥) → Bad ≡ line_at r
 not-whole Start h = refl
 not-whole (Scale v) h = refl
 not-whole (Space v) h = refl
 not-whole (Time v w) h = refl
-not-whole (Whole v w) h =
-    ⊎_elim (λ z. absurd (omega arith)) (λ h. ⊎_elim (λ z. absurd (omega arith)) (λ h. ⊎_elim (λ z. absurd (omega arith)) (λ h. ⊎_elim (λ z. absurd (omega arith)) (λ z. absurd (omega arith)) h) h) h) h
+not-whole (Whole v w) h = absurd (h v w refl)
 not-whole Wrong h = refl
 
-pub not-wrong : (r : Reading) → OneOf (0 ∷ 1 ∷ 2 ∷ 3 ∷ 4 ∷ []) (tag_of (declared Reading-enum) r) → false ≡ is_wrong r
+pub not-wrong : (r : Reading) → (r ≡ Wrong → ⊥) → false ≡ is_wrong r
 not-wrong Start h = refl
 not-wrong (Scale v) h = refl
 not-wrong (Space v) h = refl
 not-wrong (Time v w) h = refl
 not-wrong (Whole v w) h = refl
-not-wrong Wrong h =
-    ⊎_elim (λ z. absurd (omega arith)) (λ h. ⊎_elim (λ z. absurd (omega arith)) (λ h. ⊎_elim (λ z. absurd (omega arith)) (λ h. ⊎_elim (λ z. absurd (omega arith)) (λ z. absurd (omega arith)) h) h) h) h
+not-wrong Wrong h = absurd (h refl)

@@ -1,4 +1,6 @@
 // Tags in the tag profile: names, classes and annotations of start tags, and end tags. Document 02, K11.
+#![tactic(auto)]
+
 ghost use Rattle.std.specs.Prelude.{◌≡◌, false, ◌≤◌, ◌<◌, length, get_or};
 ghost use Rattle.profile.specs.Grammar.{noted, is_ruby, class_byte};
 ghost use Rattle.profile.specs.Machine.{State, Name};

@@ -1,4 +1,6 @@
 // The reader of a timestamp in a payload of the tag profile.
+#![tactic(auto)]
+
 ghost use Rattle.std.specs.Prelude.{◌≡◌, true, ◌+◌, ◌<◌, ◌≤◌, length, get_or};
 ghost use Rattle.profile_times.specs.Terms.{TimeIs, Told, Fits};
 

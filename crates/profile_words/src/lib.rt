@@ -1,4 +1,6 @@
 // Words in the tag profile: given bytes, and escapes. Document 02, K11.
+#![tactic(auto)]
+
 ghost use Rattle.std.specs.Prelude.{◌≡◌, ◌⊎◌, ◌+◌, ◌≤◌, ◌<◌, eqb, length, get_or};
 ghost use Rattle.base.specs.Choice.{pick};
 ghost use Rattle.profile.specs.Machine.{State, Amp, AmpL, lit};

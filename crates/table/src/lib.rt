@@ -1,4 +1,6 @@
 // A table of 8-byte records and its samples back to back: the fields of a record, and the judgement of all but what a sample holds.
+#![tactic(auto)]
+
 ghost use Rattle.std.specs.Prelude.{◌≡◌, ◌++◌, ◌+◌, ◌*◌, ◌≤◌, ◌<◌, length};
 ghost use Rattle.base.specs.Over.{wrote};
 ghost use Rattle.fields.specs.BigEndian.{bytes};

@@ -1,4 +1,6 @@
 // The modifier boxes of a `tx3g` sample: their kinds, and whether a content fills its box.
+#![tactic(auto)]
+
 ghost use Rattle.std.specs.Prelude.{◌≡◌, ◌≤◌, length};
 ghost use Rattle.bodies.specs.Bodies.{filled};
 ghost use Rattle.tx3g_contents.specs.Kinds.{single, ranged, known};

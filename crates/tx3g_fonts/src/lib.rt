@@ -1,4 +1,6 @@
 // The fonts of a `tx3g` sample entry: the body of its `ftab` box.
+#![tactic(auto)]
+
 ghost use Rattle.std.specs.Prelude.{◌≡◌, ◌+◌, ◌≤◌, ◌<◌, length};
 ghost use Rattle.verdict.specs.Judgement.{each};
 ghost use Rattle.fields.specs.BigEndian.{be};

@@ -1,4 +1,6 @@
 // Which modifier boxes have been there, of those that a sample holds at most once each.
+#![tactic(auto)]
+
 ghost use Rattle.std.specs.Prelude.{◌≡◌, List, ◌∷◌, ℕ, eqb};
 ghost use Rattle.base.specs.Choice.{both, any_of};
 ghost use Rattle.boxes.specs.Boxes.{among};

@@ -1,4 +1,6 @@
 // The judgement of a WebVTT sample.
+#![tactic(auto)]
+
 ghost use Rattle.std.specs.Prelude.{◌≡◌, not, List, ◌∷◌, ℕ, suc, ◌≤◌, ◌<◌, length, eqb};
 ghost use Rattle.base.specs.Choice.{pick, both};
 ghost use Rattle.verdict.specs.Judgement.{◌gives◌at◌, ◌then◌};

@@ -1,4 +1,6 @@
 // A `wvtt` sample entry: its judgement, and what it holds.
+#![tactic(auto)]
+
 ghost use Rattle.std.specs.Prelude.{◌≡◌, not, List, [], ℕ, ◌≤◌, length, eqb};
 ghost use Rattle.base.specs.Choice.{any_of, both};
 ghost use Rattle.verdict.specs.Judgement.{◌gives◌at◌, ◌then◌};

@@ -23,14 +23,10 @@ pub slice_bounds-feed-end : goal.slice_bounds-feed-end
 slice_bounds-feed-end c = let s = c.args.buffer.now in omega (arith, length-take c.least-n.result s)
 
 pub returns-then-n-eq0 : goal.returns-then-n-eq0
-returns-then-n-eq0 c = let d = c.before.before.before in
-    let a = d.before.before.before in
-    at-end a.args.state a.args.buffer.now (to_z-of_z w64 a.args.got a.ranges.got)
-    d.least-n.result c.feed-next.result d.if-got-lt0.false d.least-n.ensures c.feed-next.ensures c.if-n-eq0.true
+returns-then-n-eq0 c = at-end c.args.state c.args.buffer.now (to_z-of_z w64 c.args.got c.ranges.got)
+    c.least-n.result c.feed-next.result c.if-got-lt0.false c.least-n.ensures c.feed-next.ensures c.if-n-eq0.true
 
 pub returns : goal.returns
-returns c = let d = c.before.before.before.before in
-    let a = d.before.before.before in
-    not_yet a.args.state a.args.buffer.now (to_z-of_z w64 a.args.got a.ranges.got)
-    d.least-n.result c.feed-next.result d.if-got-lt0.false d.least-n.ensures c.feed-next.ensures c.if-n-eq0.false
+returns c = not_yet c.args.state c.args.buffer.now (to_z-of_z w64 c.args.got c.ranges.got)
+    c.least-n.result c.feed-next.result c.if-got-lt0.false c.least-n.ensures c.feed-next.ensures c.if-n-eq0.false
     c.is_wrong-last.result c.is_wrong-last.ensures

@@ -15,7 +15,7 @@ overflow_add-result c = omega (arith, length-number c.args.n c.args.end)
 
 pub returns : goal.returns
 returns c = let l = length-number c.args.n c.args.end in
-    (omega arith, ended c.args.out-1.now _ c.args.at _ c.args.n c.args.end c.put_decimal-behind.ensures.1 c.put_decimal-behind.ensures.0 (omega arith))
+    (omega arith, ended c.args.out.now _ c.args.at _ c.args.n c.args.end c.put_decimal-behind.ensures.1 c.put_decimal-behind.ensures.0 (omega arith))
 
 pub shape_of-out : goal.shape_of-out
 shape_of-out c = simp length-set (omega arith)

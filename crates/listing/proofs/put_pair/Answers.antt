@@ -12,4 +12,4 @@ put_number-requires c = omega (arith, length-pair c.args.n c.args.m)
 pub returns : goal.returns
 returns c = let a = c.args in
     let l = length-pair a.n a.m in
-    (omega arith, paired a.out-1.now _ _ a.at _ a.n a.m c.put_number-behind.ensures.1 c.put_number.ensures.1 c.put_number-behind.ensures.0 (omega arith))
+    (omega arith, paired a.out.now _ _ a.at _ a.n a.m c.put_number-behind.ensures.1 c.put_number.ensures.1 c.put_number-behind.ensures.0 (omega arith))

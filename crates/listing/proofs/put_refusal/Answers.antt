@@ -10,4 +10,4 @@ put_pair-requires c = omega (arith, length-refusal c.args.number c.args.place, r
 pub returns : goal.returns
 returns c = let a = c.args in
     let l = length-refusal a.number a.place in
-    (omega arith, refused-text a.out-1.now _ _ a.number a.place c.put_word.ensures c.put_pair.ensures.1 (omega arith))
+    (omega arith, refused-text a.out.now _ _ a.number a.place c.put_word.ensures c.put_pair.ensures.1 (omega arith))

@@ -16,4 +16,4 @@ pub returns : goal.returns
 unfolding row_text
 returns c = let s = pair-short c.get32-duration.result c.get32-size.result c.get32-duration.ensures.1 c.get32-size.ensures.1 in
     let e : pair_text c.get32-duration.result c.get32-size.result ≡ row_text c.args.table.now c.args.k = ap₂ pair_text c.get32-duration.ensures.0 c.get32-size.ensures.0 in
-    (c.put_pair.ensures.0 ∙ ap (λ (x : List ℕ). c.args.at + length x) e, omega arith, c.put_pair.ensures.1 ∙ ap (wrote c.args.out-1.now c.args.at) e)
+    (c.put_pair.ensures.0 ∙ ap (λ (x : List ℕ). c.args.at + length x) e, omega arith, c.put_pair.ensures.1 ∙ ap (wrote c.args.out.now c.args.at) e)

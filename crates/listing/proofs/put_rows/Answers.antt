@@ -11,12 +11,12 @@ use Rattle.listing.proofs.put_rows.Goals as goal
 
 pub loop-k-init : goal.loop-k-init
 unfolding rows_text
-loop-k-init c = (omega arith, omega arith, refl, refl, over-nil c.args.out-1.now)
+loop-k-init c = (omega arith, omega arith, refl, refl, over-nil c.args.out.now)
 
 pub loop-k-preserved : goal.loop-k-preserved
 loop-k-preserved c = let l = c.loop-k in
     let a = c.args in
-    (omega arith, omega arith, omega arith, rows-length a.table.now l.at _ l.k l.invariant.3 c.put_row-at.ensures.0, rows_more a.out-1.now l.out-1 _ a.table.now l.at l.k l.invariant.3 l.invariant.4 c.put_row-at.ensures.2)
+    (omega arith, omega arith, omega arith, rows-length a.table.now l.at _ l.k l.invariant.3 c.put_row-at.ensures.0, rows_more a.out.now l.out _ a.table.now l.at l.k l.invariant.3 l.invariant.4 c.put_row-at.ensures.2)
 
 pub shape_of-out : goal.shape_of-out
 shape_of-out c = c.loop-k.invariant.2
@@ -25,4 +25,4 @@ pub returns : goal.returns
 returns c = let l = c.loop-k in
     let a = c.args in
     let e : l.k ≡ a.count = le_antisymm l.invariant.0 c.loop-k-test.false in
-    (l.invariant.3 ∙ ap (λ (x : ℕ). length (rows_text a.table.now x)) e, l.invariant.4 ∙ ap (λ (x : ℕ). over (rows_text a.table.now x) a.out-1.now) e)
+    (l.invariant.3 ∙ ap (λ (x : ℕ). length (rows_text a.table.now x)) e, l.invariant.4 ∙ ap (λ (x : ℕ). over (rows_text a.table.now x) a.out.now) e)

@@ -4,6 +4,7 @@ use mathlib.Core.Logic.{⊎_elim}
 use native.Mathlib.Omega.{arith}
 use Rattle.timestamps.specs.Timestamps.{digit}
 use Rattle.timestamps.proofs.Laws.{counting-start, counting_more, counting-stop, counting-end}
+use Rattle.timestamps.proofs.read_digits.Goals.{then-most-number, else-most-number}
 use Rattle.timestamps.proofs.read_digits.Goals as goal
 
 pub loop-i-init : goal.loop-i-init
@@ -30,7 +31,7 @@ pub loop-i-preserved : goal.loop-i-preserved
 unfolding digit
 loop-i-preserved c =
     let w : c.if-most-number.number ≡ min (c.loop-i.number * 10 + c.number_of.result) c.args.most =
-    ⊎_elim (λ w. omega (arith, w.0.taken, w.1)) (λ w. omega (arith, w.0.left, w.1)) c.if-most-number.branch in
+    elim c.if-most-number.branch [ then-most-number w ↦ omega (arith, w.if-most-number.true, w.number-is) | else-most-number w ↦ omega (arith, w.if-most-number.false, w.number-is) ] in
     counting_more _ _ _ _ _ c.loop-i-test.true (sym c.is_within.ensures ∙ c.if-not-is_within.false)
     (w ∙ ap (λ (x : ℕ). min (c.loop-i.number * 10 + x) c.args.most) c.number_of.ensures.0) c.loop-i.invariant
 

@@ -1,0 +1,40 @@
+use Prim.Native.Nat.{◌-◌}
+use mathlib.Core.Path.{refl, ◌∙◌}
+use mathlib.Core.Logic.{⊎_elim}
+use native.Mathlib.Omega.{arith}
+use borrow.Author.Count.{below_none, below_more}
+use Rattle.cues.proofs.Laws.{Fresh, differ, fresh-apart, none-twice, one-twice, slots-more, free-fresh}
+use Rattle.cues.proofs.judge_ids.Goals.{then-taken-slot+else-loop-j-test, else-taken-slot, else-search-test, then-search-test+then-taken-slot+then-loop-j-test+then-source_id-id}
+use Rattle.cues.proofs.judge_ids.Goals as goal
+
+pub search-init : goal.search-init
+search-init c = (omega arith, below_none _, record { whole = refl; marked = below_none _ })
+
+pub loop-j-init : goal.loop-j-init
+loop-j-init c = (omega arith, below_none _)
+
+pub loop-j-preserved : goal.loop-j-preserved
+loop-j-preserved c =
+    let inner = c.loop-j in
+    (omega arith, below_more _ _ inner.invariant.1 (differ _ _ _ _ _ c.source_id.ensures.0 c.source_id-id.ensures.0 c.if-source_id-id.false))
+
+pub search-preserved : goal.search-preserved
+search-preserved c =
+    let outer = c.search in
+    let same = c.source_id-id.ensures.0 in
+    let fresh : Fresh c.args.records.now c.search.i c.search.i = elim c.if-taken-slot.branch [
+      | then-taken-slot+else-loop-j-test w ↦ λ k l. w.loop-j.invariant.1 k (omega (arith, l, w.loop-j-test.false))
+      | else-taken-slot w ↦ free-fresh _ _ _ _ same outer.invariant.2 w.if-taken-slot.false
+    ] in
+    (omega arith, below_more _ _ outer.invariant.1 (fresh-apart _ _ fresh), slots-more _ _ _ _ same outer.invariant.2)
+
+pub returns-then-i-n : goal.returns-then-i-n
+returns-then-i-n c =
+    c.refused.ensures
+    ∙ elim c.search-test.branch [
+      | else-search-test w ↦ absurd (omega (arith, w.search-test.false))
+      | then-search-test+then-taken-slot+then-loop-j-test+then-source_id-id w ↦ one-twice _ _ _ _ _ _ c.if-i-n.true w.loop-j-test.true w.source_id.ensures.0 w.source_id-id.ensures.0 w.if-source_id-id.true w.loop-j.invariant.1 c.search.invariant.1
+    ]
+
+pub returns : goal.returns
+returns c = none-twice _ _ _ c.if-i-n.false c.search.invariant.1

@@ -1,0 +1,48 @@
+use Rattle.wvtt_entry.specs.Entry.{in_entry, end_entry}
+use Rattle.boxes.proofs.Judging.{judged-box, judged-refused, judged-stop}
+use Rattle.boxes.proofs.Laws.{step-box, not-box}
+use Rattle.boxes.specs.declared.Step.TheVariants.{Box}
+use Rattle.boxes.specs.Boxes.{step_at, among}
+use lib.ListN.{length}
+use native.Mathlib.Omega.{arith}
+use mathlib.Core.List.{[], ◌∷◌}
+use mathlib.Core.Path.{◌≡◌, refl, sym, ◌∙◌}
+use Prim.Native.Nat.{◌-◌}
+use Rattle.wvtt_entry.proofs.judge_boxes.Goals as goal
+
+pub loop-kind-init : goal.loop-kind-init
+unfolding among
+loop-kind-init c = ([], refl, refl, refl)
+
+pub returns-in_default : goal.returns-in_default
+returns-in_default c = let i = c.loop-kind.invariant in
+    c.end_entry.ensures
+    ∙ rw i.1 (judged-stop (in_entry _) end_entry _ _ _ i.0 _ (sym c.step_at-t.ensures) (not-box c.step_at-t.result c.in_default.not-Box))
+    ∙ i.3
+
+pub judge_box-v-requires : goal.judge_box-v-requires
+judge_box-v-requires c = let w =
+    let got : step_at c.args.e.now c.loop-kind.at (length c.args.e.now) ≡ Box c.in-Box.kind c.in-Box.body c.in-Box.next = sym c.step_at-t.ensures ∙ c.in-Box.is in
+    step-box _ _ _ _ _ _ (got) in omega arith
+
+pub returns-in_default-v : goal.returns-in_default-v
+returns-in_default-v c = let i =
+    let got : step_at c.args.e.now c.loop-kind.at (length c.args.e.now) ≡ Box c.in-Box.kind c.in-Box.body c.in-Box.next = sym c.step_at-t.ensures ∙ c.in-Box.is in
+    c.loop-kind.invariant in
+    judged-refused (in_entry _) end_entry _ _ _ i.0 _ _ _ _ _ (got) (c.judge_box-v.ensures i.0 i.1 i.2) c.in_default-v.is ∙ i.3
+
+pub loop-kind-smaller : goal.loop-kind-smaller
+loop-kind-smaller c = let w =
+    let got : step_at c.args.e.now c.loop-kind.at (length c.args.e.now) ≡ Box c.in-Box.kind c.in-Box.body c.in-Box.next = sym c.step_at-t.ensures ∙ c.in-Box.is in
+    step-box _ _ _ _ _ _ (got) in omega arith
+
+pub loop-kind-preserved : goal.loop-kind-preserved
+unfolding among
+loop-kind-preserved c = let i =
+    let got : step_at c.args.e.now c.loop-kind.at (length c.args.e.now) ≡ Box c.in-Box.kind c.in-Box.body c.in-Box.next = sym c.step_at-t.ensures ∙ c.in-Box.is in
+    c.loop-kind.invariant in (
+      c.in-Box.kind ∷ i.0,
+      rw (← i.1) c.mark_kind-configured.ensures,
+      rw (← i.2) c.mark_kind-labelled.ensures,
+      judged-box (in_entry _) end_entry _ _ _ i.0 _ _ _ (got) (sym (c.judge_box-v.ensures i.0 i.1 i.2) ∙ c.in-Fine.is) ∙ i.3,
+    )
