@@ -2,10 +2,11 @@ use Prim.Native.Nat.{◌+◌, ◌-◌, ◌*◌, ◌≤◌}
 use mathlib.Core.Logic.{⊎_elim}
 use native.Mathlib.Omega.{arith}
 use lib.ListN.{get_or}
-use borrow.Author.Tests.{ltb-true, ltb-false}
+use borrow.Author.Tests.{ltb-true}
 use Rattle.profile.specs.Machine.{clock, most}
 use Rattle.profile_times.specs.Terms.{lows}
 use Rattle.profile_times.proofs.Clock.{units, rests_of, rests, none_read, all_read, ends, below, above, top-fits, late, on}
+use Rattle.profile_times.proofs.spell_time.Goals.{then-b-least-via-then-b-least, then-b-least-via-else-b-least+then-highest-k}
 use Rattle.profile_times.proofs.spell_time.Goals as goal
 
 pub loop-k-init : goal.loop-k-init
@@ -18,7 +19,10 @@ pub returns-then-b-least : goal.returns-then-b-least
 unfolding clock
 returns-then-b-least c =
     let t = c.loop-k.invariant.1 in
-    ⊎_elim (λ e. below t (omega arith) (omega arith) e.taken) (λ e. above t (omega arith) (omega arith) e.0.left (ltb-true _ _ e.1.taken)) c.then-b-least.branch
+    elim c.then-b-least.branch [
+      | then-b-least-via-then-b-least w ↦ below t (omega arith) (omega arith) w.if-b-least.true
+      | then-b-least-via-else-b-least+then-highest-k w ↦ above t (omega arith) (omega arith) w.if-b-least.false w.if-highest-k.true
+    ]
 
 pub overflow_cast-time : goal.overflow_cast-time
 overflow_cast-time c = omega (arith, (c.type_inv.s (c.args.at + c.loop-k.k)).fits)
@@ -27,30 +31,30 @@ pub overflow_mul-time : goal.overflow_mul-time
 unfolding clock most rests_of
 overflow_mul-time c =
     let fit : let a = c.args in let l = c.loop-k in
-    l.time + (get_or a.s.now (a.at + l.k) 0 - get_or lows l.k 0) * get_or units l.k 0 + get_or rests l.k 0 ≤ 359999999 = top-fits c.loop-k.invariant.1 (omega arith) (omega arith) c.then-b-least.false (ltb-false _ _ c.if-highest-k.false) in
+    l.time + (get_or a.s.now (a.at + l.k) 0 - get_or lows l.k 0) * get_or units l.k 0 + get_or rests l.k 0 ≤ 359999999 = top-fits c.loop-k.invariant.1 (omega arith) (omega arith) c.if-b-least.false c.if-highest-k.false in
     omega (arith, fit)
 
 pub overflow_add-time : goal.overflow_add-time
 unfolding clock most rests_of
 overflow_add-time c =
     let fit : let a = c.args in let l = c.loop-k in
-    l.time + (get_or a.s.now (a.at + l.k) 0 - get_or lows l.k 0) * get_or units l.k 0 + get_or rests l.k 0 ≤ 359999999 = top-fits c.loop-k.invariant.1 (omega arith) (omega arith) c.then-b-least.false (ltb-false _ _ c.if-highest-k.false) in
+    l.time + (get_or a.s.now (a.at + l.k) 0 - get_or lows l.k 0) * get_or units l.k 0 + get_or rests l.k 0 ≤ 359999999 = top-fits c.loop-k.invariant.1 (omega arith) (omega arith) c.if-b-least.false c.if-highest-k.false in
     omega (arith, fit)
 
 pub overflow_add-time-in-loop-k : goal.overflow_add-time-in-loop-k
 unfolding clock most rests_of
 overflow_add-time-in-loop-k c =
     let fit : let a = c.args in let l = c.loop-k in
-    l.time + (get_or a.s.now (a.at + l.k) 0 - get_or lows l.k 0) * get_or units l.k 0 + get_or rests l.k 0 ≤ 359999999 = top-fits c.loop-k.invariant.1 (omega arith) (omega arith) c.then-b-least.false (ltb-false _ _ c.if-highest-k.false) in
+    l.time + (get_or a.s.now (a.at + l.k) 0 - get_or lows l.k 0) * get_or units l.k 0 + get_or rests l.k 0 ≤ 359999999 = top-fits c.loop-k.invariant.1 (omega arith) (omega arith) c.if-b-least.false c.if-highest-k.false in
     omega (arith, fit)
 
 pub returns-then-time-rests : goal.returns-then-time-rests
 unfolding clock most rests_of
-returns-then-time-rests c = late c.loop-k.invariant.1 (omega arith) (omega arith) c.then-b-least.false (ltb-false _ _ c.if-highest-k.false) c.if-time-rests.true
+returns-then-time-rests c = late c.loop-k.invariant.1 (omega arith) (omega arith) c.if-b-least.false c.if-highest-k.false c.if-time-rests.true
 
 pub loop-k-preserved : goal.loop-k-preserved
 unfolding clock most rests_of
-loop-k-preserved c = (omega arith, on c.loop-k.invariant.1 (omega arith) (omega arith) c.then-b-least.false (ltb-false _ _ c.if-highest-k.false) c.if-time-rests.false)
+loop-k-preserved c = (omega arith, on c.loop-k.invariant.1 (omega arith) (omega arith) c.if-b-least.false c.if-highest-k.false c.if-time-rests.false)
 
 pub returns : goal.returns
 returns c = all_read c.loop-k.invariant.1 (omega arith)
