@@ -1,4 +1,6 @@
 // The judge of payloads by the tag profile: content and spans read each other. Document 02, K11.
+#![tactic(auto)]
+
 ghost use Rattle.std.specs.Prelude.{◌≡◌, true, ◌≤◌, ◌<◌, length, get_or};
 ghost use Rattle.profile.specs.Grammar.{plain_byte};
 ghost use Rattle.profile.specs.Machine.{judge};

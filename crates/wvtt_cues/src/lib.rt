@@ -1,4 +1,6 @@
 // The cues of a WebVTT sample, one by one from left to right.
+#![tactic(auto)]
+
 ghost use Rattle.std.specs.Prelude.{◌≡◌, ◌≤◌, length};
 ghost use Rattle.boxes.specs.Boxes.{boxes_in, stopped_by};
 ghost use Rattle.wvtt_cues.specs.Cues.{with_id, if_whole, inner_of, cue_by, next_cue, placed};

@@ -13,9 +13,9 @@ unfolding judge_fonts
 returns-in_default c = simp (← c.judge_walk-v.ensures, c.in_default.is)
 
 pub get16-count-requires : goal.get16-count-requires
-get16-count-requires c = let w =
+get16-count-requires c =
     let whole : font_at c.args.s.now c.args.body (be 2 c.args.s.now c.args.body) ≡ c.args.next = filled-fine _ _ _ (sym c.judge_walk-v.ensures ∙ c.in-Fine.is) in
-    fonts-from c.args.s.now c.args.body (be 2 c.args.s.now c.args.body) in omega (arith, whole)
+    let w = fonts-from c.args.s.now c.args.body (be 2 c.args.s.now c.args.body) in omega (arith, whole)
 
 pub returns-then-count-gt256 : goal.returns-then-count-gt256
 unfolding judge_fonts

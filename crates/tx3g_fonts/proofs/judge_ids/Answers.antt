@@ -8,6 +8,7 @@ use mathlib.Core.Logic.{⊎_elim}
 use mathlib.Core.Bool.{false}
 use Prim.Native.Nat.{◌+◌, ◌-◌, ◌≤◌}
 use native.Mathlib.Omega.{arith}
+use Rattle.tx3g_fonts.proofs.judge_ids.Goals.{then-taken-slot+else-is_among, else-taken-slot}
 use Rattle.tx3g_fonts.proofs.judge_ids.Goals as goal
 
 pub overflow_add-at : goal.overflow_add-at
@@ -43,7 +44,10 @@ pass_font-at-requires c =
 pub loop-k-preserved : goal.loop-k-preserved
 loop-k-preserved c =
     let absent : font_among c.args.s.now c.args.body c.loop-k.k c.get16-id.result
-    ≡ false = ⊎_elim (λ w. sym w.1.ensures ∙ w.2.left) (λ w. c.loop-k.invariant.3.free _ w.left) c.if-taken-slot.branch in
+    ≡ false = elim c.if-taken-slot.branch [
+      | then-taken-slot+else-is_among w ↦ sym w.is_among.ensures ∙ w.if-is_among.false
+      | else-taken-slot w ↦ c.loop-k.invariant.3.free _ w.if-taken-slot.false
+    ] in
     let inv = c.loop-k.invariant in
     let id = c.get16-id.ensures.0 in
     (font-more _ _ _ _ _ inv.0 c.pass_font-at.ensures.0, omega arith, each_more _ _ inv.2 (fresh-new _ _ _ _ _ _ inv.0 id (absent)), taken_more _ _ _ _ _ _ inv.0 id inv.3)

@@ -20,23 +20,23 @@ returns-in_default c = let i = c.loop-kind.invariant in
     ∙ i.2
 
 pub judge_part-v-requires : goal.judge_part-v-requires
-judge_part-v-requires c = let w =
+judge_part-v-requires c =
     let got : step_at c.args.s.now c.loop-kind.at c.args.end ≡ Box c.in-Box.kind c.in-Box.body c.in-Box.next = sym c.step_at-t.ensures ∙ c.in-Box.is in
-    step-box _ _ _ _ _ _ (got) in omega arith
+    let w = step-box _ _ _ _ _ _ (got) in omega arith
 
 pub returns-in_default-v : goal.returns-in_default-v
-returns-in_default-v c = let i =
+returns-in_default-v c =
     let got : step_at c.args.s.now c.loop-kind.at c.args.end ≡ Box c.in-Box.kind c.in-Box.body c.in-Box.next = sym c.step_at-t.ensures ∙ c.in-Box.is in
-    c.loop-kind.invariant in
+    let i = c.loop-kind.invariant in
     judged-refused (in_cue _) (end_cue _) _ _ _ i.0 _ _ _ _ _ (got) (c.judge_part-v.ensures i.0 i.1) c.in_default-v.is ∙ i.2
 
 pub loop-kind-smaller : goal.loop-kind-smaller
-loop-kind-smaller c = let w =
+loop-kind-smaller c =
     let got : step_at c.args.s.now c.loop-kind.at c.args.end ≡ Box c.in-Box.kind c.in-Box.body c.in-Box.next = sym c.step_at-t.ensures ∙ c.in-Box.is in
-    step-box _ _ _ _ _ _ (got) in omega arith
+    let w = step-box _ _ _ _ _ _ (got) in omega arith
 
 pub loop-kind-preserved : goal.loop-kind-preserved
-loop-kind-preserved c = let i =
+loop-kind-preserved c =
     let got : step_at c.args.s.now c.loop-kind.at c.args.end ≡ Box c.in-Box.kind c.in-Box.body c.in-Box.next = sym c.step_at-t.ensures ∙ c.in-Box.is in
-    c.loop-kind.invariant in
+    let i = c.loop-kind.invariant in
     (_, c.with_kind-seen.ensures i.0 i.1, judged-box (in_cue _) (end_cue _) _ _ _ i.0 _ _ _ (got) (sym (c.judge_part-v.ensures i.0 i.1) ∙ c.in-Fine.is) ∙ i.2)

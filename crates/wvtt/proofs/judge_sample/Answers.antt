@@ -29,31 +29,31 @@ judge_box-v-requires c =
     (step-box _ _ _ _ _ _ (got)).inside
 
 pub returns-in_default-v : goal.returns-in_default-v
-returns-in_default-v c = let i =
+returns-in_default-v c =
     let got : step_at c.args.s.now c.loop-kind.at (length c.args.s.now) ≡ Box c.in-Box.kind c.in-Box.body c.in-Box.next = sym c.step_at-t.ensures ∙ c.in-Box.is in
-    c.loop-kind.invariant in
+    let i = c.loop-kind.invariant in
     judged-refused (in_sample _) end_sample _ _ _ i.0 _ _ _ _ _ (got) (c.judge_box-v.ensures i.0) c.in_default-v.is ∙ i.3
 
 pub count_kind-cues-requires : goal.count_kind-cues-requires
-count_kind-cues-requires c = let w =
+count_kind-cues-requires c =
     let got : step_at c.args.s.now c.loop-kind.at (length c.args.s.now) ≡ Box c.in-Box.kind c.in-Box.body c.in-Box.next = sym c.step_at-t.ensures ∙ c.in-Box.is in
-    step-box _ _ _ _ _ _ (got) in omega arith
+    let w = step-box _ _ _ _ _ _ (got) in omega arith
 
 pub count_kind-empties-requires : goal.count_kind-empties-requires
-count_kind-empties-requires c = let w =
+count_kind-empties-requires c =
     let got : step_at c.args.s.now c.loop-kind.at (length c.args.s.now) ≡ Box c.in-Box.kind c.in-Box.body c.in-Box.next = sym c.step_at-t.ensures ∙ c.in-Box.is in
-    step-box _ _ _ _ _ _ (got) in omega arith
+    let w = step-box _ _ _ _ _ _ (got) in omega arith
 
 pub loop-kind-smaller : goal.loop-kind-smaller
-loop-kind-smaller c = let w =
+loop-kind-smaller c =
     let got : step_at c.args.s.now c.loop-kind.at (length c.args.s.now) ≡ Box c.in-Box.kind c.in-Box.body c.in-Box.next = sym c.step_at-t.ensures ∙ c.in-Box.is in
-    step-box _ _ _ _ _ _ (got) in omega arith
+    let w = step-box _ _ _ _ _ _ (got) in omega arith
 
 pub loop-kind-preserved : goal.loop-kind-preserved
 unfolding times
-loop-kind-preserved c = let i =
+loop-kind-preserved c =
     let got : step_at c.args.s.now c.loop-kind.at (length c.args.s.now) ≡ Box c.in-Box.kind c.in-Box.body c.in-Box.next = sym c.step_at-t.ensures ∙ c.in-Box.is in
-    c.loop-kind.invariant in
+    let i = c.loop-kind.invariant in
     let w = step-box _ _ _ _ _ _ (got) in (
       c.in-Box.kind ∷ i.0,
       rw (← i.1) c.count_kind-cues.ensures,

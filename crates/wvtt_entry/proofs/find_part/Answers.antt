@@ -17,9 +17,9 @@ returns-then-kind-wanted c =
     body-found _ _ _ _ _ _ _ (got) c.if-kind-wanted.true ∙ c.loop-kind.invariant
 
 pub loop-kind-smaller : goal.loop-kind-smaller
-loop-kind-smaller c = let w =
+loop-kind-smaller c =
     let got : step_at c.args.e.now c.loop-kind.at (length c.args.e.now) ≡ Box c.in-Box.kind c.in-Box.body c.in-Box.next = sym c.step_at-t.ensures ∙ c.in-Box.is in
-    step-box _ _ _ _ _ _ (got) in omega arith
+    let w = step-box _ _ _ _ _ _ (got) in omega arith
 
 pub loop-kind-preserved : goal.loop-kind-preserved
 loop-kind-preserved c =

@@ -21,26 +21,26 @@ returns-in_default c = let i = c.loop-kind.invariant in
     ∙ i.3
 
 pub judge_box-v-requires : goal.judge_box-v-requires
-judge_box-v-requires c = let w =
+judge_box-v-requires c =
     let got : step_at c.args.e.now c.loop-kind.at (length c.args.e.now) ≡ Box c.in-Box.kind c.in-Box.body c.in-Box.next = sym c.step_at-t.ensures ∙ c.in-Box.is in
-    step-box _ _ _ _ _ _ (got) in omega arith
+    let w = step-box _ _ _ _ _ _ (got) in omega arith
 
 pub returns-in_default-v : goal.returns-in_default-v
-returns-in_default-v c = let i =
+returns-in_default-v c =
     let got : step_at c.args.e.now c.loop-kind.at (length c.args.e.now) ≡ Box c.in-Box.kind c.in-Box.body c.in-Box.next = sym c.step_at-t.ensures ∙ c.in-Box.is in
-    c.loop-kind.invariant in
+    let i = c.loop-kind.invariant in
     judged-refused (in_entry _) end_entry _ _ _ i.0 _ _ _ _ _ (got) (c.judge_box-v.ensures i.0 i.1 i.2) c.in_default-v.is ∙ i.3
 
 pub loop-kind-smaller : goal.loop-kind-smaller
-loop-kind-smaller c = let w =
+loop-kind-smaller c =
     let got : step_at c.args.e.now c.loop-kind.at (length c.args.e.now) ≡ Box c.in-Box.kind c.in-Box.body c.in-Box.next = sym c.step_at-t.ensures ∙ c.in-Box.is in
-    step-box _ _ _ _ _ _ (got) in omega arith
+    let w = step-box _ _ _ _ _ _ (got) in omega arith
 
 pub loop-kind-preserved : goal.loop-kind-preserved
 unfolding among
-loop-kind-preserved c = let i =
+loop-kind-preserved c =
     let got : step_at c.args.e.now c.loop-kind.at (length c.args.e.now) ≡ Box c.in-Box.kind c.in-Box.body c.in-Box.next = sym c.step_at-t.ensures ∙ c.in-Box.is in
-    c.loop-kind.invariant in (
+    let i = c.loop-kind.invariant in (
       c.in-Box.kind ∷ i.0,
       rw (← i.1) c.mark_kind-configured.ensures,
       rw (← i.2) c.mark_kind-labelled.ensures,
