@@ -1,5 +1,7 @@
 // The table of the cues that are known: nine numbers for each, its ID, its start and end ticks, and from where to where each of its
 // three texts stands in the bytes that are read. Texts are compared where they stand.
+#![tactic(auto)]
+
 ghost use Rattle.std.specs.Prelude.{◌≡◌, ◌+◌, ◌*◌, ◌≤◌, ◌<◌, length};
 ghost use Rattle.base.specs.Choice.{same_list};
 ghost use Rattle.base.specs.Over.{wrote};

@@ -1,4 +1,6 @@
 // The judgement of a track of WebVTT samples.
+#![tactic(auto)]
+
 ghost use Rattle.std.specs.Prelude.{◌≡◌, ◌+◌, ◌*◌, ◌≤◌, length};
 ghost use Rattle.wvtt.specs.Sample.{judge_sample};
 ghost use Rattle.table.specs.Table.{offset_of, judge_row_by};

@@ -22,6 +22,7 @@ use Rattle.boxes.specs.Boxes.{Boxes, clean, broken, box, step_at, on_step, boxes
 use Rattle.boxes.proofs.Laws.{step-box, step-reads}
 use Rattle.text.specs.Rules.{configuration_text, label_text}
 use Rattle.text.specs.Beginnings.{configuration_begun, label_begun}
+use Rattle.wvtt_entry.specs.declared.Found.{Found}
 use Rattle.wvtt_entry.specs.declared.Part.{Part}
 use Rattle.wvtt_entry.specs.Entry.{vtt_c, vlab, judge_content, in_entry, end_entry, judge_entry}
 use Rattle.wvtt_entry.specs.Reading.{first_body, entry_boxes, held_by, unless_faulty, read_entry}
@@ -29,6 +30,10 @@ use Rattle.wvtt_entry.specs.Held.{Stands, BodyOf, LabelOf, Holds, EntryHolds}
 use Rattle.wvtt_entry.proofs.Laws.{entry-parts}
 
 -- ---- boxes that stand among others
+
+-- what stands, by what the first body is
+stands-there : (k : ℕ) (bs : Boxes) (x : Found) → first_body k bs ≡ x → Stands k x.part.from x.part.end bs → Stands k (first_body k bs).part.from (first_body k bs).part.end bs
+stands-there k bs x e s = rw e s
 
 -- the first body is one that stands there
 found-stands : (k : ℕ) (bs : Boxes) → (first_body k bs).there ≡ true → Stands k (first_body k bs).part.from (first_body k bs).part.end bs
@@ -38,7 +43,8 @@ found-stands k (broken r) h = true-false false h refl
 found-stands k (box p j b n rest) h =
     by-test (eqb j k)
     (λ e. rw e (inl (eqb-true j k e, refl, refl)))
-    (λ e. rw e (inr (found-stands k rest (rw e at h))))
+    (λ e. let q : first_body k (box p j b n rest) ≡ first_body k rest = rw e refl in
+    stands-there k (box p j b n rest) (first_body k rest) q (inr (found-stands k rest (rw q at h))))
 
 -- where none is found, none stands
 none-stands : (k b n : ℕ) (bs : Boxes) → (first_body k bs).there ≡ false → Stands k b n bs → ⊥

@@ -1,4 +1,6 @@
 // Writing WebVTT samples: a cue, and the empty sample.
+#![tactic(auto)]
+
 ghost use Rattle.std.specs.Prelude.{◌≡◌, [], ◌++◌, ◌+◌, ◌≤◌, ◌<◌, length};
 ghost use Rattle.base.specs.Over.{wrote};
 ghost use Rattle.fields.specs.BigEndian.{bytes};

@@ -8,16 +8,11 @@ use native.Mathlib.Omega.{arith}
 use Prim.Native.Nat.{ℕ, ◌+◌}
 use mathlib.Core.Path.{ap, sym, ◌∙◌}
 use mathlib.Core.List.{List, ◌++◌}
-use borrow.Author.Rules.{rules}
-use Rattle.wvtt_write.proofs.put_id.Statement.{statement}
-use Rattle.wvtt_write.proofs.put_id.Tie as tie
+use Rattle.wvtt_write.proofs.put_id.Goals as goal
 
-returns : tie.Need-returns
-returns c = let a = c.before.before.before.before.before.before.before.before.before.args in
-    c.before.before.put32.ensures
-    ∙ ap (λ (d : List ℕ). wrote d (a.at + 8) (bytes 4 a.id)) c.before.before.before.before.before.before.put-header.ensures
+pub returns : goal.returns
+returns c = let a = c.args in
+    c.put32.ensures
+    ∙ ap (λ (d : List ℕ). wrote d (a.at + 8) (bytes 4 a.id)) c.put_header.ensures
     ∙ ap (λ (n : ℕ). wrote (wrote a.out.now a.at (bytes 4 (n + 8) ++ bytes 4 vsid)) (a.at + 8) (bytes 4 a.id)) (sym (length-bytes 4 a.id))
     ∙ boxed a.out.now a.at vsid (bytes 4 a.id) (omega arith)
-
-pub put-id-spec : {M : Type 1} → statement M
-put-id-spec = tie.close (tie.spec (λ c κs. search rules) (λ c. search rules) (λ c κs. search rules) (λ c. search rules) returns)
