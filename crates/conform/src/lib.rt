@@ -1,4 +1,6 @@
 // The check of a track against a list of cue records. It writes nothing.
+#![tactic(auto)]
+
 ghost use Rattle.std.specs.Prelude.{◌≡◌, List, ℕ, ◌+◌, ◌≤◌, ◌<◌, length};
 ghost use Rattle.base.specs.Choice.{same_list};
 ghost use Rattle.verdict.specs.declared.Verdict.TheVariants.{Fine};

@@ -1,4 +1,6 @@
 // The cuts of packing, one after the other, and the samples between them: found by a window over records whose starts never fall.
+#![tactic(auto)]
+
 ghost use Rattle.std.specs.Prelude.{◌≡◌, suc, min, ◌+◌, ◌*◌, ◌≤◌, ◌<◌, length, ltb};
 ghost use Rattle.base.specs.Choice.{pick};
 ghost use Rattle.timeline.specs.Nearest.{nearest};

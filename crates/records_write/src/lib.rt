@@ -1,4 +1,6 @@
 // Writing a cue as a record and its texts in the pool. The texts may lie in any lent bytes.
+#![tactic(auto)]
+
 ghost use Rattle.std.specs.Prelude.{◌≡◌, ◌++◌, ◌+◌, ◌*◌, ◌≤◌, ◌<◌, length};
 ghost use Rattle.base.specs.Over.{wrote};
 ghost use Rattle.fields.specs.BigEndian.{bytes};

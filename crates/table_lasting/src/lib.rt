@@ -1,4 +1,6 @@
 // Dropping the samples of duration 0: a table and its samples, copied without them.
+#![tactic(auto)]
+
 ghost use Rattle.std.specs.Prelude.{◌≡◌, ◌≤◌, length};
 ghost use Rattle.base.specs.Over.{over};
 ghost use Rattle.verdict.specs.declared.Verdict.TheVariants.{Fine};

@@ -1,4 +1,6 @@
 // The judgement of a `tx3g` sample entry.
+#![tactic(auto)]
+
 ghost use Rattle.std.specs.Prelude.{◌≡◌, List, [], ℕ, ◌≤◌, length};
 ghost use Rattle.fields.specs.BigEndian.{be};
 ghost use Rattle.boxes.specs.Boxes.{judged, among};

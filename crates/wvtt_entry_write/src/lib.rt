@@ -1,4 +1,6 @@
 // Writing a `wvtt` sample entry: its configuration, its label if there is one, and the data reference index.
+#![tactic(auto)]
+
 ghost use Rattle.std.specs.Prelude.{◌≡◌, ◌+◌, ◌≤◌, length};
 ghost use Rattle.base.specs.Over.{over, wrote};
 ghost use Rattle.boxes.specs.Written.{box_bytes, item_bytes};

@@ -1,0 +1,6 @@
+use Rattle.cuts.proofs.Laws.{not-empty}
+use native.Mathlib.Omega.{arith}
+use Rattle.cuts.proofs.sample_size.Goals as goal
+
+pub returns : goal.returns
+returns c = (not-empty _ c.if-cues-eq0.false, omega arith)

@@ -1,0 +1,49 @@
+use Prim.Native.Nat.{◌-◌}
+use mathlib.Core.Path.{sym, ◌∙◌}
+use mathlib.Core.Logic.{⊎_elim}
+use native.Mathlib.Omega.{arith}
+use Rattle.table.specs.Table.{row_count}
+use Rattle.table.proofs.Judging.{judged-ends}
+use Rattle.table_lasting.proofs.Turns.{counted_none, counted-kept, counted-dropped, counted-stops, counted-left, counted-all}
+use Rattle.table_lasting.proofs.measure_rows.Goals as goal
+
+pub judge_size-v-requires : goal.judge_size-v-requires
+judge_size-v-requires c = let w = c.loop-i.invariant.judged in (omega arith, w.begins, w.inside)
+
+pub returns-in-Refused : goal.returns-in-Refused
+unfolding row_count
+returns-in-Refused c = counted-stops _ _ _ _ _ _ c.loop-i.invariant c.requires c.loop-i-test.true _ (sym c.judge_size-v.ensures ∙ c.in-Refused.is)
+
+pub overflow_add-kept : goal.overflow_add-kept
+overflow_add-kept c = omega (arith, c.loop-i.invariant.fewer)
+
+pub overflow_add-bytes : goal.overflow_add-bytes
+overflow_add-bytes c = omega (arith, c.loop-i.invariant.less, judged-ends _ _ _ _ _ c.loop-i.invariant.judged _ c.size_at-size.ensures.0 (sym c.judge_size-v.ensures ∙ c.in_default.is))
+
+pub overflow_add-at : goal.overflow_add-at
+overflow_add-at c = omega (arith, judged-ends _ _ _ _ _ c.loop-i.invariant.judged _ c.size_at-size.ensures.0 (sym c.judge_size-v.ensures ∙ c.in_default.is))
+
+pub loop-i-preserved : goal.loop-i-preserved
+unfolding row_count
+loop-i-preserved c = let w = c.loop-i.invariant in
+    let f = sym c.judge_size-v.ensures ∙ c.in_default.is in
+    let d = c.duration_at.ensures.0 in
+    ⊎_elim
+    (λ k. rw (k.1, k.2) (counted-kept _ _ _ _ _ _ w c.loop-i-test.true f _ c.size_at-size.ensures.0 (λ z. k.0.taken (d ∙ z))))
+    (λ k. rw (k.1, k.2) (counted-dropped _ _ _ _ _ _ w c.loop-i-test.true f _ c.size_at-size.ensures.0 (sym d ∙ k.0.left)))
+    c.if-duration_at-ne0.branch
+
+pub overflow_mul-result : goal.overflow_mul-result
+unfolding row_count
+overflow_mul-result c = omega (arith, c.loop-i.invariant.fewer, c.loop-i.invariant.judged.most)
+
+pub returns-in_default-left : goal.returns-in_default-left
+unfolding row_count
+returns-in_default-left c = counted-all _ _ _ _ _ _ c.loop-i.invariant c.requires c.loop-i-test.false (sym c.judge_left-left.ensures ∙ c.in_default-left.is)
+
+pub returns : goal.returns
+unfolding row_count
+returns c = counted-left _ _ _ _ _ _ c.loop-i.invariant c.requires c.loop-i-test.false _ (sym c.judge_left-left.ensures ∙ c.in-Refused-left.is)
+
+pub loop-i-init : goal.loop-i-init
+loop-i-init c = counted_none _ _
