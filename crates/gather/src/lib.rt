@@ -1,4 +1,6 @@
 // The cues of a track, joined over neighbouring samples.
+#![tactic(auto)]
+
 ghost use Rattle.std.specs.Prelude.{◌≡◌, ◌≤◌, length};
 ghost use Rattle.boxes.specs.Boxes.{part};
 ghost use Rattle.timeline.specs.Unpacking.{unpack};

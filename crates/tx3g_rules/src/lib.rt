@@ -1,4 +1,6 @@
 // The rules for the bodies of modifier boxes: fonts, ranges and order.
+#![tactic(auto)]
+
 ghost use Rattle.std.specs.Prelude.{◌≡◌, ◌+◌, ◌≤◌, length, leb};
 ghost use Rattle.base.specs.Choice.{both};
 ghost use Rattle.verdict.specs.Judgement.{each};

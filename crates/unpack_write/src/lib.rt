@@ -1,4 +1,6 @@
 // Writing the rows of the table as records and pool.
+#![tactic(auto)]
+
 ghost use Rattle.std.specs.Prelude.{◌≡◌, ℕ, ◌+◌, ◌*◌, ◌≤◌, ◌<◌, length};
 ghost use Rattle.base.specs.Over.{wrote, over};
 ghost use Rattle.wvtt_cues.specs.Cues.{text_of};

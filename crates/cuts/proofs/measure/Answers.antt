@@ -10,7 +10,7 @@ unfolding bytes_to
 loop-b-init c = (cut-first _ _ _ _, omega arith, omega arith, (λ j l. absurd (omega arith)), (λ j l. absurd (omega arith)), refl, omega arith)
 
 pub stretch_from-s-requires : goal.stretch_from-s-requires
-stretch_from-s-requires c = let l = c.loop-b.invariant in ((c.requires, l.1, l.2), (l.3, l.4))
+stretch_from-s-requires c = let l = c.loop-b.invariant in record { timed = (c.requires, l.1, l.2); ended = (l.3, l.4) }
 
 pub sample_size-bytes-requires : goal.sample_size-bytes-requires
 sample_size-bytes-requires c = c.stretch_from-s.ensures.cues_most

@@ -8,28 +8,28 @@ use native.Mathlib.Omega.{arith}
 use Rattle.cuts.proofs.scan_window.Goals as goal
 
 pub loop-k-init : goal.loop-k-init
-loop-k-init c = let w = c.requires.1.1 in
+loop-k-init c = let w = c.requires.lasting.1 in
     let a = c.args in (
-      window-rises _ _ _ _ _ _ c.requires.1.0 w,
-      sym (near_before _ _ _ _ _ w.ended (λ j l. c.requires.1.0 j (omega (arith, w.first_most)))),
+      window-rises _ _ _ _ _ _ c.requires.lasting.0 w,
+      sym (near_before _ _ _ _ _ w.ended (λ j l. c.requires.lasting.0 j (omega (arith, w.first_most)))),
       sym (size-before _ _ _ _ w.ended),
       omega arith,
     )
 
 pub see_record-s-requires : goal.see_record-s-requires
-see_record-s-requires c = let w = c.requires.1.1 in omega (arith, w.last_most)
+see_record-s-requires c = let w = c.requires.lasting.1 in omega (arith, w.last_most)
 
 pub loop-k-preserved : goal.loop-k-preserved
-loop-k-preserved c = let w = c.requires.1.1 in
+loop-k-preserved c = let w = c.requires.lasting.1 in
     let h = w.started c.loop-k.k c.loop-k-test.true in (
       omega arith,
-      c.see_record-s.ensures.0 ∙ rw c.loop-k.invariant.1 (sym (near-more _ _ _ _ _ h)),
-      c.see_record-s.ensures.1.0 ∙ rw c.loop-k.invariant.2 (sym (size-more _ _ _ _ h)),
-      omega (arith, c.see_record-s.ensures.1.1),
+      c.see_record-s.ensures.next_value ∙ rw c.loop-k.invariant.1 (sym (near-more _ _ _ _ _ h)),
+      c.see_record-s.ensures.cues_value.0 ∙ rw c.loop-k.invariant.2 (sym (size-more _ _ _ _ h)),
+      omega (arith, c.see_record-s.ensures.cues_value.1),
     )
 
 pub returns : goal.returns
-returns c = let w = c.requires.1.1 in
+returns c = let w = c.requires.lasting.1 in
     let e = le_antisymm c.loop-k.invariant.0 c.loop-k-test.false in
     let a = c.args in (
       c.loop-k.invariant.1 ∙ ap (λ (x : ℕ). nearest a.top a.b (ticks_to a.scale a.records.now x)) e,

@@ -5,7 +5,7 @@ use native.Mathlib.Omega.{arith}
 use Rattle.cuts.proofs.skip_ended.Goals as goal
 
 pub loop-i-init : goal.loop-i-init
-loop-i-init c = (omega arith, c.requires.1)
+loop-i-init c = (omega arith, c.requires.ended)
 
 pub returns-then-b-end_tick : goal.returns-then-b-end_tick
 returns-then-b-end_tick c = c.loop-i.invariant
