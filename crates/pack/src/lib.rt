@@ -1,4 +1,6 @@
 // Packing: a list of cue records into a sample table and WebVTT samples.
+#![tactic(auto)]
+
 ghost use Rattle.std.specs.Prelude.{◌≡◌, [], ◌+◌, ◌*◌, ◌≤◌, ◌<◌, ltb, length};
 ghost use Rattle.base.specs.Choice.{pick, keep};
 ghost use Rattle.base.specs.Over.{over, wrote};

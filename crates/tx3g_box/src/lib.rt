@@ -1,4 +1,6 @@
 // The text box in force for a `tx3g` sample: eight bytes where they stand, in the sample or else in the entry.
+#![tactic(auto)]
+
 ghost use Rattle.std.specs.Prelude.{◌≡◌};
 ghost use Rattle.tx3g_sample.specs.Sample.{read_sample};
 ghost use Rattle.tx3g_box.specs.TextBox.{spot_in, boxes_of, spot_of, bytes_at, stands_at};

@@ -1,4 +1,6 @@
 // The modifiers of a `tx3g` sample, one by one from left to right. `blnk` is retired, and not handed out.
+#![tactic(auto)]
+
 ghost use Rattle.std.specs.Prelude.{◌≡◌, ◌+◌, ◌≤◌, length};
 ghost use Rattle.boxes.specs.Boxes.{boxes_in, stopped_by};
 ghost use Rattle.tx3g_contents.specs.Contents.{link_end, content_end};

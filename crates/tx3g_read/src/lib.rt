@@ -1,4 +1,6 @@
 // What a `tx3g` sample entry and a sample say: the entry's fields and fonts; the sample's text, where its styles stand, and whether it has a `blnk`.
+#![tactic(auto)]
+
 ghost use Rattle.std.specs.Prelude.{◌≡◌, ◌+◌, ◌≤◌, length};
 ghost use Rattle.utf8.specs.Strings.{starts_with};
 ghost use Rattle.characters.specs.Characters.{mark};

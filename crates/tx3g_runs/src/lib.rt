@@ -1,4 +1,6 @@
 // The runs of a `tx3g` text: characters of one style, by a style of the sample or by the default one.
+#![tactic(auto)]
+
 ghost use Rattle.std.specs.Prelude.{◌≡◌, ◌+◌, ◌≤◌, ◌<◌, leb, length};
 ghost use Rattle.tx3g_runs.specs.declared.Run.TheVariants.{Plain};
 ghost use Rattle.tx3g_runs.specs.Runs.{lasts, run_by, next_run};

@@ -1,4 +1,6 @@
 // The reading of a `tx3g` sample: its character count, or the first fault and whose it is.
+#![tactic(auto)]
+
 ghost use Rattle.std.specs.Prelude.{◌≡◌, List, ℕ, ◌+◌, ◌≤◌, length};
 ghost use Rattle.verdict.specs.declared.Verdict.TheVariants.{Fine};
 ghost use Rattle.fields.specs.BigEndian.{be};

@@ -1,4 +1,6 @@
 // A `tx3g` track: the judgement of its samples beside their entry, and how many modifier boxes of each kind they hold.
+#![tactic(auto)]
+
 ghost use Rattle.std.specs.Prelude.{◌≡◌, List, ℕ, ◌+◌, ◌*◌, ◌≤◌, ◌<◌, eqb, length};
 ghost use Rattle.base.specs.Choice.{pick};
 ghost use Rattle.verdict.specs.declared.Verdict.TheVariants.{Fine};

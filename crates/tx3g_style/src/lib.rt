@@ -1,4 +1,6 @@
 // The style of a character of a `tx3g` sample.
+#![tactic(auto)]
+
 ghost use Rattle.std.specs.Prelude.{◌≡◌, ◌+◌, ◌≤◌, length};
 ghost use Rattle.tx3g_contents.specs.Contents.{styles_end};
 ghost use Rattle.tx3g_sample.specs.Sample.{read_sample};

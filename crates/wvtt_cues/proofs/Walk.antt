@@ -20,6 +20,7 @@ use Rattle.boxes.specs.declared.Step.TheVariants.{Box, Refused as Stopped, End a
 use Rattle.boxes.specs.Boxes.{step_at, Boxes, clean, broken, box, on_step, boxes_f, boxes_in, passed}
 use Rattle.boxes.proofs.Laws.{step-box, boxes-at, boxes-box, NoBox}
 use Rattle.wvtt.specs.Kinds.{vttc, iden, sttg, payl}
+use Rattle.wvtt_cues.specs.declared.Parts.{Parts}
 use Rattle.wvtt_cues.specs.declared.Part.{Part}
 use Rattle.wvtt_cues.specs.declared.Held.{Held}
 use Rattle.wvtt_cues.specs.declared.Held.TheVariants.{Cue, Refused, End}
@@ -127,8 +128,8 @@ NoCue (Refused r) = Unit {0}
 NoCue End = Unit {0}
 
 -- in the `else` of `let Held::Cue { .. } = h else`
-pub not-cue : (h : Held) → OneOf (1 ∷ 2 ∷ []) (tag_of (declared Held-enum) h) → NoCue h
-not-cue (Cue c n) t = ⊎_elim (λ z. absurd (omega arith)) (λ z. absurd (omega arith)) t
+pub not-cue : (h : Held) → ((c : Parts) (n : ℕ) → h ≡ Cue c n → ⊥) → NoCue h
+not-cue (Cue c n) t = absurd (t c n refl)
 not-cue (Refused r) t = tt
 not-cue End t = tt
 

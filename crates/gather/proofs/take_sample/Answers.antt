@@ -46,7 +46,7 @@ returns-in_default-t c =
     let inside : let a = c.args in Inside (a.end - a.at) c.in-Cue.parts = let a = c.args in
     subst (λ (l : ℕ). Inside l c.in-Cue.parts) (length_part a.samples.now a.at a.end c.requires.3 c.requires.4) (got).inside in
     let step : let a = c.args in let l = c.loop-parts in
-    taking_of a.samples.now c.take_cue-t.new.1.0 c.take_cue-t.result
+    taking_of a.samples.now c.take_cue-t.new.tab c.take_cue-t.result
     ≡ take_body a.b a.e (known a.samples.now l.tab l.count) l.k (held_by (part a.samples.now a.at a.end) c.in-Cue.parts) = let a = c.args in let l = c.loop-parts in
     c.take_cue-t.ensures.0
     ∙ ap (λ (y : Row). take_body y.start y.end (known a.samples.now l.tab l.count) l.k (body_at a.samples.now c.in-Cue.parts.named y)) c.new_row-y.ensures
@@ -66,7 +66,7 @@ loop-parts-preserved c =
     let inside : let a = c.args in Inside (a.end - a.at) c.in-Cue.parts = let a = c.args in
     subst (λ (l : ℕ). Inside l c.in-Cue.parts) (length_part a.samples.now a.at a.end c.requires.3 c.requires.4) (got).inside in
     let step : let a = c.args in let l = c.loop-parts in
-    taking_of a.samples.now c.take_cue-t.new.1.0 c.take_cue-t.result
+    taking_of a.samples.now c.take_cue-t.new.tab c.take_cue-t.result
     ≡ take_body a.b a.e (known a.samples.now l.tab l.count) l.k (held_by (part a.samples.now a.at a.end) c.in-Cue.parts) = let a = c.args in let l = c.loop-parts in
     c.take_cue-t.ensures.0
     ∙ ap (λ (y : Row). take_body y.start y.end (known a.samples.now l.tab l.count) l.k (body_at a.samples.now c.in-Cue.parts.named y)) c.new_row-y.ensures

@@ -71,4 +71,4 @@ shape_of-content c = (copied-long _ _ _ _ c.requires _ _ _ _ _ _ c.loop-i.invari
 
 pub returns : goal.returns
 unfolding row_count
-returns c = copied_all _ _ _ _ c.requires _ _ _ _ _ _ c.loop-i.invariant c.loop-i-test.false
+returns c = let w = copied_all _ _ _ _ c.requires _ _ _ _ _ _ c.loop-i.invariant c.loop-i-test.false in record { rows_after = w.0; content_after = w.1 }

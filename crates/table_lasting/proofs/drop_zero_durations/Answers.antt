@@ -8,15 +8,15 @@ use Rattle.table_lasting.proofs.Answers.{room-refused, room-told, room-means}
 use Rattle.table_lasting.proofs.drop_zero_durations.Goals as goal
 
 pub returns-in_default : goal.returns-in_default
-returns-in_default c = let w = room-refused _ _ _ _ _ _ c.drop_zero_durations_room-room.ensures c.in_default.is in (w.0, (w.1 _ _, w.1 _ _))
+returns-in_default c = let w = room-refused _ _ _ _ _ _ c.drop_zero_durations_room-room.ensures c.in_default.is in record { value = w.0; rows_after = w.1 _ _; content_after = w.1 _ _ }
 
 pub returns-then-rows-size : goal.returns-then-rows-size
 returns-then-rows-size c = let e = room-told _ _ _ _ _ _ _ _ c.drop_zero_durations_room-room.ensures c.in-Done.is in
-    (ap Refused c.fault_at.ensures ∙ sym (e ∙ rw (lt-ltb _ _ c.if-rows-size.true)), (refl, refl))
+    record { value = ap Refused c.fault_at.ensures ∙ sym (e ∙ rw (lt-ltb _ _ c.if-rows-size.true)); rows_after = refl; content_after = refl }
 
 pub returns-then-content-bytes : goal.returns-then-content-bytes
 returns-then-content-bytes c = let e = room-told _ _ _ _ _ _ _ _ c.drop_zero_durations_room-room.ensures c.in-Done.is in
-    (ap Refused c.fault_at-then-content-bytes.ensures ∙ sym (e ∙ rw (le-ltb _ _ c.if-rows-size.false, lt-ltb _ _ c.if-content-bytes.true)), (refl, refl))
+    record { value = ap Refused c.fault_at-then-content-bytes.ensures ∙ sym (e ∙ rw (le-ltb _ _ c.if-rows-size.false, lt-ltb _ _ c.if-content-bytes.true)); rows_after = refl; content_after = refl }
 
 pub copy_rows-requires : goal.copy_rows-requires
 unfolding judge_drop
@@ -25,4 +25,4 @@ copy_rows-requires c = let w = room-means _ _ _ _ _ (sym c.drop_zero_durations_r
 
 pub returns : goal.returns
 returns c = let e = room-told _ _ _ _ _ _ _ _ c.drop_zero_durations_room-room.ensures c.in-Done.is in
-    (sym (e ∙ rw (le-ltb _ _ c.if-rows-size.false, le-ltb _ _ c.if-content-bytes.false)), (c.copy_rows.ensures.0, c.copy_rows.ensures.1))
+    record { value = sym (e ∙ rw (le-ltb _ _ c.if-rows-size.false, le-ltb _ _ c.if-content-bytes.false)); rows_after = c.copy_rows.ensures.rows_after; content_after = c.copy_rows.ensures.content_after }

@@ -5,6 +5,7 @@ use native.Mathlib.Omega.{arith}
 use Rattle.table.specs.Table.{row_count}
 use Rattle.table.proofs.Judging.{judged-ends}
 use Rattle.table_lasting.proofs.Turns.{counted_none, counted-kept, counted-dropped, counted-stops, counted-left, counted-all}
+use Rattle.table_lasting.proofs.measure_rows.Goals.{then-duration_at-ne0, else-duration_at-ne0}
 use Rattle.table_lasting.proofs.measure_rows.Goals as goal
 
 pub judge_size-v-requires : goal.judge_size-v-requires
@@ -28,10 +29,10 @@ unfolding row_count
 loop-i-preserved c = let w = c.loop-i.invariant in
     let f = sym c.judge_size-v.ensures ∙ c.in_default.is in
     let d = c.duration_at.ensures.0 in
-    ⊎_elim
-    (λ k. rw (k.1, k.2) (counted-kept _ _ _ _ _ _ w c.loop-i-test.true f _ c.size_at-size.ensures.0 (λ z. k.0.taken (d ∙ z))))
-    (λ k. rw (k.1, k.2) (counted-dropped _ _ _ _ _ _ w c.loop-i-test.true f _ c.size_at-size.ensures.0 (sym d ∙ k.0.left)))
-    c.if-duration_at-ne0.branch
+    elim c.if-duration_at-ne0.branch [
+      | then-duration_at-ne0 k ↦ rw (k.kept-is, k.bytes-is) (counted-kept _ _ _ _ _ _ w c.loop-i-test.true f _ c.size_at-size.ensures.0 (λ z. k.if-duration_at-ne0.true (d ∙ z)))
+      | else-duration_at-ne0 k ↦ rw (k.kept-is, k.bytes-is) (counted-dropped _ _ _ _ _ _ w c.loop-i-test.true f _ c.size_at-size.ensures.0 (sym d ∙ k.if-duration_at-ne0.false))
+    ]
 
 pub overflow_mul-result : goal.overflow_mul-result
 unfolding row_count
