@@ -1,4 +1,6 @@
 // Unpacking: the cues of a track as dense records and pool, in order of first appearance, with T in milliseconds.
+#![tactic(auto)]
+
 ghost use Rattle.std.specs.Prelude.{◌≡◌, ℕ, ◌*◌, ◌≤◌, ◌<◌, length};
 ghost use Rattle.verdict.specs.Judgement.{each};
 ghost use Rattle.times.specs.Times.{back};

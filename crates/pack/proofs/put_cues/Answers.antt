@@ -40,4 +40,4 @@ pub returns : goal.returns
 returns c = let w = c.requires.lasting.2 in
     let a = c.args in
     let l = c.loop-k in
-    let e = le_antisymm l.invariant.0 c.loop-k-test.false in record { value = l.invariant.1 ∙ ap (λ (x : ℕ). a.at + cues_size a.scale a.records.now a.b x) e ∙ ap (λ (x : ℕ). a.at + x) (size-after _ _ _ _ _ w.later w.last_most); out_after = (l.invariant.2 ∙ ap (λ (x : ℕ). wrote a.out.now a.at (cues_bytes (shown a.scale a.records.now a.pool.now a.b x))) e ∙ ap (λ (y : List Body). wrote a.out.now a.at (cues_bytes y)) (shown-after _ _ _ _ _ _ w.later w.last_most), ) }
+    let e = le_antisymm l.invariant.0 c.loop-k-test.false in record { value = l.invariant.1 ∙ ap (λ (x : ℕ). a.at + cues_size a.scale a.records.now a.b x) e ∙ ap (λ (x : ℕ). a.at + x) (size-after _ _ _ _ _ w.later w.last_most); out_after = l.invariant.2 ∙ ap (λ (x : ℕ). wrote a.out.now a.at (cues_bytes (shown a.scale a.records.now a.pool.now a.b x))) e ∙ ap (λ (y : List Body). wrote a.out.now a.at (cues_bytes y)) (shown-after _ _ _ _ _ _ w.later w.last_most) }

@@ -34,4 +34,4 @@ unfolding record_size
 returns c = let a = c.args in
     let h : a.b < end_tick a.scale a.records.now a.k = omega (arith, c.end_tick.ensures, c.if-end_tick-b.false) in
     let e = body_is a.records.now a.pool.now a.k _ _ _ _ _ c.source_id-id.ensures.0 c.text_offset-from.ensures.0 c.identifier_length-identifier.ensures.0 c.settings_length-settings.ensures.0 c.payload_length-payload.ensures.0 in
-    rw (lt-ltb _ _ h) record { value = c.put_cue.ensures.0 ∙ rw (c.payload_length-payload.ensures.0, c.settings_length-settings.ensures.0, c.identifier_length-identifier.ensures.0); out_after = (c.put_cue.ensures.1 ∙ rw e (ap (wrote a.out.now a.at) (one-cue _)), ) }
+    rw (lt-ltb _ _ h) record { value = c.put_cue.ensures.0 ∙ rw (c.payload_length-payload.ensures.0, c.settings_length-settings.ensures.0, c.identifier_length-identifier.ensures.0); out_after = c.put_cue.ensures.1 ∙ rw e (ap (wrote a.out.now a.at) (one-cue _)) }

@@ -16,7 +16,7 @@ pub returns-then-s-eq0 : goal.returns-then-s-eq0
 returns-then-s-eq0 c = let e = ap or_empty c.if-s-eq0.true in
     let a = c.args in
     let f = c.requires.lasting in
-    let l = shown-length _ _ _ a.b a.n f.1 in record { value = omega (arith, e, c.put_empty.ensures.0); out_after = (c.put_empty.ensures.1 ∙ ap (λ (y : List Body). wrote a.out.now a.at (sample_bytes y)) (sym (no_bytes _ (l ∙ sym f.2.cues_is ∙ c.if-s-eq0.true))), ) }
+    let l = shown-length _ _ _ a.b a.n f.1 in record { value = omega (arith, e, c.put_empty.ensures.0); out_after = c.put_empty.ensures.1 ∙ ap (λ (y : List Body). wrote a.out.now a.at (sample_bytes y)) (sym (no_bytes _ (l ∙ sym f.2.cues_is ∙ c.if-s-eq0.true))) }
 
 pub put_cues-requires : goal.put_cues-requires
 put_cues-requires c = let f = c.requires.lasting in
@@ -27,4 +27,4 @@ pub returns : goal.returns
 returns c = let a = c.args in
     let f = c.requires.lasting in
     let e = not-empty _ c.if-s-eq0.false in
-    let l = shown-length _ _ _ a.b a.n f.1 in record { value = omega (arith, e, f.2.cues_is, c.put_cues.ensures.value); out_after = (c.put_cues.ensures.out_after ∙ ap (wrote a.out.now a.at) (some_bytes _ (λ z. c.if-s-eq0.false (f.2.cues_is ∙ sym l ∙ z))), ) }
+    let l = shown-length _ _ _ a.b a.n f.1 in record { value = omega (arith, e, f.2.cues_is, c.put_cues.ensures.value); out_after = c.put_cues.ensures.out_after ∙ ap (wrote a.out.now a.at) (some_bytes _ (λ z. c.if-s-eq0.false (f.2.cues_is ∙ sym l ∙ z))) }

@@ -13,13 +13,13 @@ pub get16-requires : goal.get16-requires
 unfolding styles_of
 get16-requires c =
     let where-styles : c.find_body.result ≡ styles_of c.args.s.now = rw (← c.text_end.ensures.0) c.find_body.ensures in
-    let w = styles-lie _ _ _ _ c.requires (sym (where-styles) ∙ c.in-At.is) in omega (arith, w, styles-past c.args.s.now c.in-At.body)
+    let w = styles-lie _ _ _ _ c.requires (sym where-styles ∙ c.in-At.is) in omega (arith, w, styles-past c.args.s.now c.in-At.body)
 
 pub overflow_add-result : goal.overflow_add-result
 unfolding styles_of
 overflow_add-result c =
     let where-styles : c.find_body.result ≡ styles_of c.args.s.now = rw (← c.text_end.ensures.0) c.find_body.ensures in
-    let w = styles-lie _ _ _ _ c.requires (sym (where-styles) ∙ c.in-At.is) in omega (arith, w, styles-past c.args.s.now c.in-At.body)
+    let w = styles-lie _ _ _ _ c.requires (sym where-styles ∙ c.in-At.is) in omega (arith, w, styles-past c.args.s.now c.in-At.body)
 
 pub returns-in-At : goal.returns-in-At
 unfolding styles_of

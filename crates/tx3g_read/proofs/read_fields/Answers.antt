@@ -19,4 +19,4 @@ returns c =
     c.get16-2.ensures.0
 
 pub overflow_add-result : goal.overflow_add-result
-overflow_add-result c = omega (arith, c.requires.1, c.well-formed.0.0)
+overflow_add-result c = omega (arith, c.requires.1, c.well_formed.0.0)

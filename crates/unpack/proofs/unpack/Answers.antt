@@ -1,0 +1,25 @@
+use mathlib.Core.List.{List}
+use mathlib.Core.Path.{◌∙◌, ap, refl, subst}
+use Rattle.timeline.specs.Cues.{Cue}
+use Rattle.records_write.specs.Records.{records_of, pool_of}
+use Rattle.unpack.specs.Unpacking.{roomed, out_of, unpack_of}
+use Rattle.unpack.specs.Rows.{ReadAs}
+use Rattle.unpack.proofs.Laws.{rows-answer}
+use Rattle.unpack.proofs.unpack.Goals as goal
+
+pub write_list-requires : goal.write_list-requires
+write_list-requires c = (subst (ReadAs _ _ _ _) c.in-Rows.is c.read_track-list.ensures).rows_ready
+
+pub returns-in-Rows : goal.returns-in-Rows
+returns-in-Rows c = let a = c.args in
+    let w = subst (ReadAs _ _ _ _) c.in-Rows.is c.read_track-list.ensures in
+    let z = c.write_list.ensures in
+    let r = c.write_list.result in (
+      z.0 ∙ rows-answer _ _ _ _ _ _ w _ _,
+      z.1 ∙ ap (λ (x : List Cue). out_of r (records_of a.scale x) a.records.now) w.cues,
+      z.2 ∙ ap (λ (x : List Cue). out_of r (pool_of x) a.pool.now) w.cues,
+    )
+
+pub returns-in-Stopped : goal.returns-in-Stopped
+unfolding unpack_of
+returns-in-Stopped c = (ap (roomed _ _) (subst (ReadAs _ _ _ _) c.in-Stopped.is c.read_track-list.ensures), refl, refl)
