@@ -1,4 +1,6 @@
 // What the program prints: the answer to an input line, a record file and a pool file.
+#![tactic(auto)]
+
 ghost use Rattle.std.specs.Prelude.{◌≡◌, ◌*◌, ◌≤◌, length};
 ghost use Rattle.base.specs.Choice.{both};
 ghost use Rattle.base.specs.Over.{over};

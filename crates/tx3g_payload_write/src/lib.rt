@@ -1,4 +1,6 @@
 // The payload of a `tx3g` sample: what is left of its text, in UTF-8 and escaped, with the tags of its styles.
+#![tactic(auto)]
+
 ghost use Rattle.std.specs.Prelude.{◌≡◌, true, false, not, [], ◌∷◌, ◌++◌, ◌+◌, ◌≤◌, ◌<◌, length, drop, get_or, eqb};
 ghost use Rattle.base.specs.Choice.{within};
 ghost use Rattle.base.specs.Over.{wrote};

@@ -7,7 +7,7 @@ use Rattle.vtt_lines.proofs.Gathering.{gathering-start, gathered-step, gathered-
 use Rattle.vtt_lines.proofs.gather.Goals as goal
 
 pub loop-l-init : goal.loop-l-init
-loop-l-init c = let b = c.before.before in (passing-start _ _ _ b.requires.0 b.requires.1, gathering-start _ _)
+loop-l-init c = (passing-start _ _ _ c.requires.0 c.requires.1, gathering-start _ _)
 
 pub put_joint-from-requires : goal.put_joint-from-requires
 put_joint-from-requires c =

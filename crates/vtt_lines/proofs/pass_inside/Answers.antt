@@ -23,9 +23,9 @@ is_inside8-requires c = c.loop-i.invariant.0
 pub overflow_add-i : goal.overflow_add-i
 overflow_add-i c =
     let stride : let s = c.args.s.now in let i = c.loop-i.i in (i + 8 ≤ length s) × (end_at s (i + 8) ≡ end_at s c.args.at) = let l = c.loop-i.invariant in end-eight _ _ _ l.0 (sym c.is_inside8.ensures ∙ c.loop-i-test.true) l.1 in
-    omega (arith, (stride).0)
+    omega (arith, stride.0)
 
 pub loop-i-smaller : goal.loop-i-smaller
 loop-i-smaller c =
     let stride : let s = c.args.s.now in let i = c.loop-i.i in (i + 8 ≤ length s) × (end_at s (i + 8) ≡ end_at s c.args.at) = let l = c.loop-i.invariant in end-eight _ _ _ l.0 (sym c.is_inside8.ensures ∙ c.loop-i-test.true) l.1 in
-    omega (arith, (stride).0)
+    omega (arith, stride.0)

@@ -1,0 +1,10 @@
+-- The byte there.
+use mathlib.Core.Path.{refl}
+use native.Mathlib.Omega.{arith}
+use Rattle.tx3g_payload_write.proofs.byte_at.Goals as goal
+
+pub overflow_cast-result : goal.overflow_cast-result
+overflow_cast-result c = omega (arith, c.type_inv.text c.args.at)
+
+pub returns : goal.returns
+returns c = (refl, omega (arith, c.type_inv.text c.args.at))
