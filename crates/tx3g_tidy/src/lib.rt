@@ -1,5 +1,7 @@
 // Payloads of tidy texts, as nearly all are: UTF-8 without zero bytes, whose only line ends are single LFs between other characters. All of their characters are left,
 // so that a payload is measured without being made, and its text is copied by runs.
+#![tactic(auto)]
+
 ghost use Rattle.std.specs.Prelude.{◌≡◌, true, false, not, [], ◌++◌, ◌+◌, ◌-◌, ◌*◌, ◌≤◌, eqb, length};
 ghost use Rattle.base.specs.Choice.{pick};
 ghost use Rattle.base.specs.Over.{over, wrote};

@@ -1,4 +1,6 @@
 // The timing line of a cue: two times and the settings.
+#![tactic(auto)]
+
 ghost use Rattle.std.specs.Prelude.{◌≡◌, true, ◌+◌, ◌-◌, ◌≤◌, eqb, length, take, drop};
 ghost use Rattle.timestamps.specs.Timestamps.{front, behind};
 ghost use Rattle.base.specs.Choice.{both};

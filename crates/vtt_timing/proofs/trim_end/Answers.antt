@@ -1,0 +1,21 @@
+use mathlib.Core.Path.{sym, ◌∙◌}
+use native.Mathlib.Omega.{arith}
+use Rattle.vtt_timing.proofs.Laws.{trimming-start, trimming-more, trimming-stop, trimming-end}
+use Rattle.vtt_timing.proofs.trim_end.Goals as goal
+
+pub loop-to-init : goal.loop-to-init
+loop-to-init c = trimming-start c.args.s.now c.args.from (omega arith)
+
+pub returns-then-not-is_edge : goal.returns-then-not-is_edge
+returns-then-not-is_edge c =
+    let l = c.loop-to in
+    (l.invariant.0, l.invariant.1, trimming-stop c.args.s.now c.args.from l.to c.loop-to-test.true (sym c.is_edge.ensures ∙ c.if-not-is_edge.true) l.invariant)
+
+pub loop-to-smaller : goal.loop-to-smaller
+loop-to-smaller c = omega (arith, c.loop-to-test.true)
+
+pub loop-to-preserved : goal.loop-to-preserved
+loop-to-preserved c = trimming-more c.args.s.now c.args.from c.loop-to.to c.loop-to-test.true (sym c.is_edge.ensures ∙ c.if-not-is_edge.false) c.loop-to.invariant
+
+pub returns : goal.returns
+returns c = let l = c.loop-to in (l.invariant.0, l.invariant.1, trimming-end c.args.s.now c.args.from l.to c.loop-to-test.false l.invariant)
