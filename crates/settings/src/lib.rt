@@ -1,4 +1,6 @@
 // What a cue's settings say: where it stands, how wide it is, how it is aligned. The grammar of settings, what reading gives and the fixed form, with the theorems. Document 02, K10.
+#![tactic(auto)]
+
 use verdict::Refusal;
 
 #[derive(Clone, Copy)]

@@ -16,6 +16,13 @@ pub enum Timestamp {
     Malformed,
 }
 
+// The digits that a text begins with: how many, and their number, at most 100.
+#[derive(Clone, Copy)]
+struct Hours {
+    count: usize,
+    number: u32,
+}
+
 // The digits that a text begins with: how many, and their number, up to a limit.
 #[derive(Clone, Copy)]
 pub struct Digits {
@@ -87,6 +94,25 @@ fn minutes_ms(s: &[u8], at: usize) -> u32
     two_digits(s, at) * 60000 + two_digits(s, at + 3) * 1000 + ms
 }
 
+// The hours that a text begins with. A number above 100 stays 100, so that no number of digits wraps.
+fn read_hours(s: &[u8]) -> Hours
+    ensures { (result.count ≡ length (front digit s.now)) × (result.number ≡ min (value (front digit s.now)) 100) }
+{
+    let mut number = 0;
+    let mut i = 0;
+    while i < s.len() {
+        if !is_within(b'0', b'9', s[i]) {
+            return Hours { count: i, number };
+        }
+        number = number * 10 + number_of(s[i]);
+        if 100 < number {
+            number = 100;
+        }
+        i += 1;
+    }
+    Hours { count: i, number }
+}
+
 // The digits that a text begins with. A number above `most` stays `most`, so that no number of digits wraps.
 pub fn read_digits(s: &[u8], most: u32) -> Digits
     requires { most ≤ 100000 }
@@ -121,7 +147,7 @@ fn capped_ms(t: u32) -> Timestamp
 fn read_long(s: &[u8]) -> Timestamp
     ensures { result ≡ answered (hours_ms (front digit s.now) (behind digit s.now)) }
 {
-    let hours = read_digits(s, 100);
+    let hours = read_hours(s);
     let n = hours.count;
     if n < 2 {
         return Timestamp::Malformed;

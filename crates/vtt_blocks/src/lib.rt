@@ -1,4 +1,6 @@
 // The blocks of a WebVTT file: what stands at the place of a line.
+#![tactic(auto)]
+
 ghost use Rattle.std.specs.Prelude.{◌≡◌, ◌+◌, ◌≤◌, ◌<◌, length, false};
 ghost use Rattle.vtt_lines.specs.Lines.{holds_arrow};
 ghost use Rattle.vtt_blocks.specs.Kinds.{opens, names};

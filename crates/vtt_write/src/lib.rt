@@ -1,4 +1,6 @@
 // Writing a WebVTT file from a configuration text and a cue list.
+#![tactic(auto)]
+
 ghost use Rattle.std.specs.Prelude.{◌≡◌, [], ◌∷◌, ◌++◌, ◌+◌, ◌*◌, ◌≤◌, ◌<◌, length};
 ghost use Rattle.base.specs.Over.{over, wrote};
 ghost use Rattle.utf8.specs.Strings.{LF};
