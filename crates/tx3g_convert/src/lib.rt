@@ -1,4 +1,6 @@
 // Converting a `tx3g` track: the samples with text left as dense cue records and pool. One pass over the samples judges the cues and measures them, another writes them.
+#![tactic(auto)]
+
 ghost use Rattle.std.specs.Prelude.{◌≡◌, true, List, ℕ, min, ◌+◌, ◌*◌, ◌≤◌, ◌<◌, eqb, length};
 ghost use Rattle.base.specs.Choice.{pick};
 ghost use Rattle.base.specs.Over.{over};

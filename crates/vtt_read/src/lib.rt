@@ -1,4 +1,6 @@
 // Reading a WebVTT file: its cues as dense records and pool. One pass over the file judges it and keeps a row for each cue; the rows are then written.
+#![tactic(auto)]
+
 ghost use Rattle.std.specs.Prelude.{◌≡◌, ◌+◌, ◌≤◌, ◌<◌, length, drop};
 ghost use Rattle.base.specs.Choice.{pick};
 ghost use Rattle.base.specs.Over.{over};

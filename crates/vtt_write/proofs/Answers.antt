@@ -91,10 +91,10 @@ lent-done room (BadList r) n e = let z : ◌≡◌ {A = ℕ} 0 1 = cc in absurd 
 lent-done room (NoRoom r) n e = let z : ◌≡◌ {A = ℕ} 0 1 = cc in absurd (omega arith)
 
 -- an answer that is not done stays, and nothing is written
-pub stays-refused : (c recs pool : List ℕ) (room : ℕ) (w : FileWritten) → w ≡ write_room c recs pool → OneOf (1 ∷ 2 ∷ 3 ∷ []) (tag_of (declared FileWritten-enum) w)
+pub stays-refused : (c recs pool : List ℕ) (room : ℕ) (w : FileWritten) → w ≡ write_room c recs pool → ((n : ℕ) → w ≡ Done n → ⊥)
     → (w ≡ written_of c recs pool room) × ((file old : List ℕ) → old ≡ after w file old)
 unfolding written_of
-stays-refused c recs pool room (Done n) e h = ⊎_elim (λ z. absurd (omega arith)) (λ h. ⊎_elim (λ z. absurd (omega arith)) (λ z. absurd (omega arith)) h) h
+stays-refused c recs pool room (Done n) e h = absurd (h n refl)
 stays-refused c recs pool room (BadConfiguration r) e h = (ap (lent room) e, λ file old. refl)
 stays-refused c recs pool room (BadList r) e h = (ap (lent room) e, λ file old. refl)
 stays-refused c recs pool room (NoRoom r) e h = (ap (lent room) e, λ file old. refl)

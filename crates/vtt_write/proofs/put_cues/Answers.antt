@@ -29,7 +29,7 @@ loop-i-preserved c =
     let h : c.loop-i.i < count c.args.records.now = omega (arith, c.loop-i-test.true, whole-count c.args.records.now) in (
       omega (arith, c.loop-i-test.true),
       omega (arith, w.ensures.0, i.1, size-more c.args.records.now c.loop-i.i _ _ refl refl),
-      w.auto.0 ∙ i.2,
+      w.auto.out ∙ i.2,
       cues-on _ _ _ _ _ _ _ _ c.requires.0 h c.requires.1 i.1 i.3 w.ensures.1,
     )
 
