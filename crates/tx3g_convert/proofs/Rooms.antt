@@ -137,8 +137,8 @@ NotDone (BadTrack r) = Unit {0}
 NotDone (NoRoom r) = Unit {0}
 
 -- in the `else` of `let Converted::Done { .. } = room else`
-pub not_done : (x : Converted) → OneOf (1 ∷ 2 ∷ 3 ∷ []) (tag_of (declared Converted-enum) x) → NotDone x
-not_done (Done n r p t c) h = ⊎_elim (λ z. absurd (omega arith)) (⊎_elim (λ z. absurd (omega arith)) (λ z. absurd (omega arith))) h
+pub not_done : (x : Converted) → ((n r p t : ℕ) (c : Counts) → x ≡ Done n r p t c → ⊥) → NotDone x
+not_done (Done n r p t c) h = absurd (h n r p t c refl)
 not_done (BadEntry r) h = tt
 not_done (BadTrack r) h = tt
 not_done (NoRoom r) h = tt

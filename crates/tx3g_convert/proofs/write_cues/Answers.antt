@@ -48,15 +48,14 @@ loop-i-preserved c =
     let h = c.loop-i-test.true in
     let z = c.size_at.ensures.0 in
     let d = c.duration_at-duration.ensures in
-    let put = c.write_sample-state in
     let b = row-bytes _ _ _ p.track _ _ _ h l.1 z in (
       omega arith,
       row_next _ _ _ p.track _ _ _ h l.1 z,
-      put.auto.1.1.1.1.1.0 ∙ l.2,
-      sample-on _ _ _ _ _ h _ l.3 p.fine _ _ b d.0 d.1 _ put.ensures.0,
-      put.auto.1.1.1.1.1.1.0 ∙ l.4,
-      put.auto.1.1.1.1.1.1.1.0 ∙ l.5,
-      sample-written _ _ _ _ _ h _ l.3 p.fine _ _ b d.0 _ _ _ _ _ _ l.6 _ put.ensures,
+      c.write_sample-state.auto.buf ∙ l.2,
+      sample-on _ _ _ _ _ h _ l.3 p.fine _ _ b d.0 d.1 _ c.write_sample-state.ensures.0,
+      c.write_sample-state.auto.records ∙ l.4,
+      c.write_sample-state.auto.pool ∙ l.5,
+      sample-written _ _ _ _ _ h _ l.3 p.fine _ _ b d.0 _ _ _ _ _ _ l.6 _ c.write_sample-state.ensures,
     )
 
 pub shape_of-buf : goal.shape_of-buf

@@ -14,7 +14,7 @@ judge_cue-requires c = let p = c.requires in (p.0, subst (FoundIs c.args.s.now c
 pub returns-in-Empty : goal.returns-in-Empty
 returns-in-Empty c =
     let a = c.args in
-    let on = empty-on _ _ c.requires.0 _ _ (subst (FoundIs a.s.now a.state.at a.state.line) c.before.before.«at».given.1 c.find_block.ensures) in
+    let on = empty-on _ _ c.requires.0 _ _ (subst (FoundIs a.s.now a.state.at a.state.line) c.in-Empty.is c.find_block.ensures) in
     subst⁻¹ (λ (x : State). Stands a.s.now x × (a.state.at < x.at) × Rows a.s.now x.count a.tab.now) c.moved.ensures (on.0, on.1, c.requires.3)
 
 pub returns-in-Untimed : goal.returns-in-Untimed

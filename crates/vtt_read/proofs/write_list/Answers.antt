@@ -24,9 +24,8 @@ returns-then-pool-texts c =
 pub write_rows-requires : goal.write_rows-requires
 unfolding file_records file_pool
 write_rows-requires c =
-    let m = c.measure-room in
-    let w = done-ready _ _ _ _ (sym m.ensures.0 ∙ c.in-Done.is) in
-    (subst (RowsOf c.args.s.now m.new.1.1.1.0) c.in-Done.is m.ensures.1, sym w.1, m.auto.1.1.0, record { fine = w.0; records_fit = omega (arith, w.2, c.if-records-rows.false); pool_fits = omega (arith, w.3, c.if-pool-texts.false) })
+    let w = done-ready _ _ _ _ (sym c.measure-room.ensures.0 ∙ c.in-Done.is) in
+    (subst (RowsOf c.args.s.now c.measure-room.new.tab) c.in-Done.is c.measure-room.ensures.1, sym w.1, c.measure-room.auto.buf, record { fine = w.0; records_fit = omega (arith, w.2, c.if-records-rows.false); pool_fits = omega (arith, w.3, c.if-pool-texts.false) })
 
 pub returns : goal.returns
 unfolding read_of

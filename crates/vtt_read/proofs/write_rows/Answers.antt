@@ -28,8 +28,7 @@ loop-k-smaller c = omega (arith, c.loop-k-test.true)
 pub loop-k-preserved : goal.loop-k-preserved
 loop-k-preserved c =
     let i = c.loop-k.invariant in
-    let w = c.write_row-size in
-    (omega (arith, c.loop-k-test.true), w.ensures.0, w.auto.1.1.1.1.0 ∙ i.2, w.auto.1.1.1.1.1.0 ∙ i.3, w.auto.1.1.1.1.1.1.0 ∙ i.4, w.ensures.1 _ i.5, w.ensures.2 _ i.6)
+    (omega (arith, c.loop-k-test.true), c.write_row-size.ensures.0, c.write_row-size.auto.buf ∙ i.2, c.write_row-size.auto.records ∙ i.3, c.write_row-size.auto.pool ∙ i.4, c.write_row-size.ensures.1 _ i.5, c.write_row-size.ensures.2 _ i.6)
 
 pub shape_of-buf : goal.shape_of-buf
 shape_of-buf c = c.loop-k.invariant.2 ∙ sym c.requires.2

@@ -1,0 +1,14 @@
+-- Past a limit, or without a zero byte, the length is enough; else the caption, with its payload where it was made.
+use mathlib.Core.Path.{sym, ◌∙◌}
+use mathlib.Core.Logic.{⊎_elim}
+use borrow.Author.Tests.{not-true}
+use Rattle.base.proofs.Choice.{true-false}
+use Rattle.tx3g_convert.proofs.Judging.{made-sized, judged-made}
+use Rattle.tx3g_convert.proofs.judge_made.Goals as goal
+
+pub returns-then-past_limits : goal.returns-then-past_limits
+returns-then-past_limits c = λ p old m r. c.judge_cue.ensures p (made-sized p old _ _ m _ r (λ h. ⊎_elim (λ w. true-false _ (sym c.past_limits.ensures ∙ w.taken) h) (λ w. sym w.2.ensures ∙ not-true _ w.3.taken) c.then-past_limits.branch))
+
+pub returns : goal.returns
+returns c = λ p old m r.
+    c.judge_content.ensures ∙ rw (c.ms_at-start.ensures, c.ms_at-end.ensures) (judged-made p old _ _ m _ c.args.state.cues _ _ _ (sym c.past_limits.ensures ∙ c.if-past_limits.false))
