@@ -2,7 +2,11 @@
 use native.Mathlib.Numerals.{add-one}
 use mathlib.Core.Logic.{⊎_elim}
 use borrow.Author.Tests.{lt-ltb, le-ltb}
+use Rattle.tx3g_convert.proofs.behind.Goals.{then-n-gt0, else-n-gt0}
 use Rattle.tx3g_convert.proofs.behind.Goals as goal
 
 pub returns : goal.returns
-returns c = ⊎_elim (λ w. rw (w.1, lt-ltb 0 _ w.0.taken) (rw add-one)) (λ w. rw (w.1, le-ltb 0 _ w.0.left)) c.if-n-gt0.branch
+returns c = elim c.if-n-gt0.branch [
+  | then-n-gt0 w ↦ rw (w.cues-is, lt-ltb 0 _ w.if-n-gt0.true) (rw add-one)
+  | else-n-gt0 w ↦ rw (w.cues-is, le-ltb 0 _ w.if-n-gt0.false)
+]
