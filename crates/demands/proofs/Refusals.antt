@@ -103,22 +103,25 @@ use Rattle.settings.proofs.Readings.{refused-only}
 use Rattle.settings_write.specs.Writing.{record_with, settings_room}
 use Rattle.settings_flat.specs.declared.CaptionsSettings.{CaptionsSettings}
 use Rattle.settings_flat.specs.Flat.{known as known_numbers, settings_of as settings_in, given_room, given_written}
-use Rattle.demands.specs.Refusals.{InTable, Listed, CheckListed, WriteListed, ConvertListed, dropping, packing, unpacking, reading, writing, of_settings, of_box, of_cue, of_modifier, RefusalsAre}
+use Rattle.demands.specs.Refusals.{InTable, Listed, SettingsListed, CheckListed, WriteListed, ConvertListed, dropping, packing, unpacking, reading, writing, of_settings, of_box, of_cue, of_modifier, RefusalsAre}
 use Rattle.demands.proofs.Offsets.{offsets_are}
 
 -- ---- judgements
 
 -- a number of the table other than 6
 abbrev other : ℕ → Bool
-other n = both (both (leb 1 n) (leb n 21)) (not (eqb n 6))
+other n = both (both (leb 1 n) (leb n 21)) (both (not (eqb n 20)) (not (eqb n 6)))
 
 in_table : (n : ℕ) → other n ≡ true → InTable n
 in_table n h =
-    let w = both_left (both (leb 1 n) (leb n 21)) (not (eqb n 6)) h in
-    (leb-true 1 n (both_left (leb 1 n) (leb n 21) w), leb-true n 21 (both_right (leb 1 n) (leb n 21) w))
+    let w = both_left (both (leb 1 n) (leb n 21)) (both (not (eqb n 20)) (not (eqb n 6))) h in
+    let v = both_right (both (leb 1 n) (leb n 21)) (both (not (eqb n 20)) (not (eqb n 6))) h in
+    (leb-true 1 n (both_left (leb 1 n) (leb n 21) w), leb-true n 21 (both_right (leb 1 n) (leb n 21) w), eqb-false n 20 (not-true (eqb n 20) (both_left (not (eqb n 20)) (not (eqb n 6)) v)))
 
 not-six : (n : ℕ) → other n ≡ true → n ≢ 6
-not-six n h = eqb-false n 6 (not-true (eqb n 6) (both_right (both (leb 1 n) (leb n 21)) (not (eqb n 6)) h))
+not-six n h =
+    let v = both_right (both (leb 1 n) (leb n 21)) (both (not (eqb n 20)) (not (eqb n 6))) h in
+    eqb-false n 6 (not-true (eqb n 6) (both_right (not (eqb n 20)) (not (eqb n 6)) v))
 
 all_other : List ℕ → Bool
 all_other [] = true
@@ -163,7 +166,7 @@ module _ (Says : ℕ → ℕ → Type 0) where
   judged-text : (p : ℕ) (j : Judged) → ((q : ℕ) → j ≡ BadAt q → Says p q) → Listed Says (text_at p j)
   unfolding bad_text
   judged-text p Right f = tt
-  judged-text p (BadAt q) f = ((omega arith, omega arith), λ z. absurd (z refl), λ z. f q refl)
+  judged-text p (BadAt q) f = ((omega arith, omega arith, λ z. omega arith), λ z. absurd (z refl), λ z. f q refl)
 
   text-at-listed : (keeps begun : List ℕ → Bool) → JudgedIs keeps begun → (p : ℕ) (s : List ℕ) → ((q : ℕ) → FirstBad (Passes keeps) s q → Says p q) → Listed Says (text_at p (judged_by keeps begun s))
   text-at-listed keeps begun is p s f = judged-text p (judged_by keeps begun s) (λ q e. f q (((is s).1 q).0 e))
@@ -420,7 +423,7 @@ count-listed s = go (judged_by tx3g_text tx3g_begun s) refl
   where
     go : (j : Judged) → judged_by tx3g_text tx3g_begun s ≡ j → Listed (InText s) (counted_at 0 (count_by j (character_count s)))
     go Right e = tt
-    go (BadAt q) e = ((omega arith, omega arith), λ z. absurd (z refl), λ z. (refl, ((offsets_are.tx3g s).1 q).0 e))
+    go (BadAt q) e = ((omega arith, omega arith, λ z. omega arith), λ z. absurd (z refl), λ z. (refl, ((offsets_are.tx3g s).1 q).0 e))
 
 -- ---- WebVTT
 
@@ -472,18 +475,23 @@ profile-listed s =
     last Right = tt
     last (BadAt q) = given (InPayload s) true 21 q refl
 
-settings-listed : (s : List ℕ) → Listed (InSettings s) (of_settings (read_settings s))
+-- what is listed is listed with 20, too
+with-settings : (Says : ℕ → ℕ → Type 0) (v : Verdict) → Listed Says v → SettingsListed Says v
+with-settings Says Fine h = tt
+with-settings Says (Refused r) h = (inl h.0, h.1.0, h.1.1)
+
+settings-listed : (s : List ℕ) → SettingsListed (InSettings s) (of_settings (read_settings s))
 unfolding read_settings
 settings-listed s = go (ltb 255 (length s)) (judged_by identifier_text identifier_begun s) refl (text-at-listed (InSettings s) identifier_text identifier_begun offsets_are.identifier 0 s (λ q f. (refl, f)))
   where
-    words-listed : (a : Read) → read_words (words 0 s) [] unread ≡ a → Listed (InSettings s) (of_settings a)
+    words-listed : (a : Read) → read_words (words 0 s) [] unread ≡ a → SettingsListed (InSettings s) (of_settings a)
     words-listed (SettingsRead x) e = tt
-    words-listed (NoSettings w) e = let k = refused-only s w e in rw k.1 (given (InSettings s) true 20 k.0 refl)
+    words-listed (NoSettings w) e = let k = refused-only s w e in rw k.1 (inr refl, λ z. refl, λ z. absurd (omega arith))
 
     go : (t : Bool) (j : Judged) → judged_by identifier_text identifier_begun s ≡ j → Listed (InSettings s) (text_at 0 j)
-        → Listed (InSettings s) (of_settings (unless_bad (t gives 9 at 0 then text_at 0 j) (λ _. read_words (words 0 s) [] unread)))
-    go true j e h = given (InSettings s) true 9 0 refl
-    go false (BadAt q) e h = h
+        → SettingsListed (InSettings s) (of_settings (unless_bad (t gives 9 at 0 then text_at 0 j) (λ _. read_words (words 0 s) [] unread)))
+    go true j e h = with-settings (InSettings s) (Refused (fault 9 0)) (given (InSettings s) true 9 0 refl)
+    go false (BadAt q) e h = with-settings (InSettings s) (text_at 0 (BadAt q)) h
     go false Right e h = words-listed (read_words (words 0 s) [] unread) refl
 
 given-listed : (x : CaptionsSettings) (region : List ℕ) (room : ℕ) → Listed Never (writing (given_written x region room))

@@ -1,6 +1,6 @@
 -- Demand 1: a refusal's number is never 0 and stands in document 01's table; its second place is 0 beside every number but 6, and beside 6 it names the first bad byte of the
 -- text that its place names; whatever was given.
-use Rattle.std.specs.Prelude.{ℕ, ◌≤◌, ◌≡◌, ◌≢◌, List, length}
+use Rattle.std.specs.Prelude.{ℕ, ◌≤◌, ◌≡◌, ◌≢◌, ◌⊎◌, List, length}
 use Rattle.std.proofs.Math.Option.{Option}
 use Rattle.verdict.specs.declared.Verdict.{Verdict}
 use Rattle.verdict.specs.declared.Verdict.TheVariants.{Fine, Refused}
@@ -54,14 +54,19 @@ use Rattle.tx3g_box.specs.declared.Spot.TheVariants.{Sample as SampleBox, Entry 
 use Rattle.tx3g_box.specs.TextBox.{spot_of}
 use Rattle.demands.specs.Offsets.{InSample, InEntry, InWritten, InConfiguration, InPayload, InSettings, InRecord, InFile, InTrack, InText, InTx3g, InStock, Never}
 
--- the numbers of refusals
+-- the numbers of refusals: 1 to 19, and 21
 abbrev pub InTable : ℕ → Type 0
-InTable n = (1 ≤ n) × (n ≤ 21)
+InTable n = (1 ≤ n) × (n ≤ 21) × (n ≢ 20)
 
 -- no refusal, or one with a number of the table; if that is 6, `Says` holds of its two places, else the second is 0
 abbrev pub Listed : (ℕ → ℕ → Type 0) → Verdict → Type 0
 Listed Says Fine = Unit {0}
 Listed Says (Refused r) = InTable r.number × (r.number ≢ 6 → r.offset ≡ 0) × (r.number ≡ 6 → Says r.place r.offset)
+
+-- of reading settings: with a number of the table, or 20
+abbrev pub SettingsListed : (ℕ → ℕ → Type 0) → Verdict → Type 0
+SettingsListed Says Fine = Unit {0}
+SettingsListed Says (Refused r) = (InTable r.number ⊎ (r.number ≡ 20)) × (r.number ≢ 6 → r.offset ≡ 0) × (r.number ≡ 6 → Says r.place r.offset)
 
 abbrev pub packing : Packed → Verdict
 packing (Done n t b) = Fine
@@ -128,7 +133,7 @@ pub record RefusalsAre : Type 0 where
   pub count : (s : List ℕ) → Listed (InText s) (counted_at 0 (characters_of s))
   pub step : (s : List ℕ) (at end : ℕ) → Listed Never (stopped_by (step_at s at end))
   pub profile : (s : List ℕ) → Listed (InPayload s) (judge_profile s)
-  pub settings : (s : List ℕ) → Listed (InSettings s) (of_settings (read_settings s))
+  pub settings : (s : List ℕ) → SettingsListed (InSettings s) (of_settings (read_settings s))
   pub write_settings : (x : CaptionsSettings) (region : List ℕ) (room : ℕ) → Listed Never (writing (given_written x region room))
   pub sample : (s : List ℕ) → Listed (InSample s) (judge_sample s)
   pub cue : (s : List ℕ) (from : ℕ) → Listed Never (of_cue (next_cue s (boxes_in s from (length s))))

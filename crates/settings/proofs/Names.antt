@@ -71,6 +71,7 @@ onto-last n [] m h = h
 onto-last n (t ∷ ts) m h = onto-last n ts (t ∷ m) (inr h)
 
 pub onto-among : (n : ℕ) (ts m : List Setting) → Among n ts → Among n (onto ts m)
+onto-among n [] m x = elim x [ ]
 onto-among n (t ∷ ts) m (inl e) = onto-last n ts (t ∷ m) (inl e)
 onto-among n (t ∷ ts) m (inr h) = onto-among n ts (t ∷ m) h
 
@@ -88,6 +89,7 @@ disjoint-less [] t m h = tt
 disjoint-less (u ∷ ts) t m h = (λ a. h.0 (inr a), disjoint-less ts t m h.1)
 
 disjoint-not : (ts : List Setting) (t : Setting) (m : List Setting) → Disjoint ts (t ∷ m) → Among (name_of t) ts → ⊥
+disjoint-not [] t m h x = elim x [ ]
 disjoint-not (u ∷ ts) t m h (inl e) = h.0 (inl (sym e))
 disjoint-not (u ∷ ts) t m h (inr a) = disjoint-not ts t m h.1 a
 
@@ -141,5 +143,6 @@ has-among n (t ∷ m) h = by-test (eqb n (name_of t)) (λ e. inl (sym (eqb-true 
 
 pub among-has : (n : ℕ) (m : List Setting) → Among n m → has n (map name_of m) ≡ true
 unfolding has
+among-has n [] x = elim x [ ]
 among-has n (t ∷ m) (inl e) = rw (eq-eqb n (name_of t) (sym e))
 among-has n (t ∷ m) (inr h) = rw (among-has n m h) (one-of-yes (eqb n (name_of t)))
