@@ -1,4 +1,6 @@
 // The settings of a cue, put into a slice: each that is not the default, as a word, with one space between two. Document 02, K10.
+#![tactic(auto)]
+
 ghost use Rattle.std.specs.Prelude.{◌≡◌, [], ◌+◌, ◌≤◌, ◌<◌, nat_abs, length, take};
 ghost use Rattle.base.specs.Over.{wrote};
 ghost use Rattle.settings.specs.Form.{fraction_text, percent_text, number_text, line_text, line_edge, position_edge, stated_vertical, stated_line, stated_position, stated_size, stated_align, stated_values, joined};
