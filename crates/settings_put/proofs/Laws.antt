@@ -143,8 +143,8 @@ percent-written d d₁ d₂ at m n p e₁ f₁ e₂ f₂ h k = (
 )
 
 -- what is known of a line that is not auto
-pub not-auto : (l : Line) (a : LineAlign) → OneOf (1 ∷ 2 ∷ []) (tag_of (declared Line-enum) l) → stated_line l a ≡ line l a ∷ []
-not-auto LineAuto a h = ⊎_elim (λ z. absurd (omega arith)) (λ z. absurd (omega arith)) h
+pub not-auto : (l : Line) (a : LineAlign) → (l ≡ LineAuto → ⊥) → stated_line l a ≡ line l a ∷ []
+not-auto LineAuto a h = absurd (h refl)
 not-auto (Number n) a h = refl
 not-auto (LinePercent p) a h = refl
 

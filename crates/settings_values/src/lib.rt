@@ -1,4 +1,6 @@
 // The values of settings, and a word of a settings text as a setting. Document 02, K10.
+#![tactic(auto)]
+
 ghost use Rattle.std.specs.Prelude.{◌≡◌, true, ◌+◌, ◌≤◌, min, eqb, leb, pos, neg_ℤ, length};
 ghost use Rattle.std.proofs.Math.Option.{some};
 ghost use Rattle.base.specs.Choice.{same_list};

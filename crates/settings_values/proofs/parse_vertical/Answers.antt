@@ -1,0 +1,15 @@
+-- Word by word.
+use Rattle.settings.specs.Reading.{word_in}
+use Rattle.settings_values.proofs.parse_vertical.Goals as goal
+
+pub returns-then-is_word : goal.returns-then-is_word
+unfolding word_in
+returns-then-is_word c = rw (← c.is_IsWord.ensures, c.if-is_word.true)
+
+pub returns-then-is_word-2 : goal.returns-then-is_word-2
+unfolding word_in
+returns-then-is_word-2 c = rw (← c.is_IsWord.ensures, c.if-is_word.false, ← c.is_word-2.ensures, c.if-is_word-2.true)
+
+pub returns : goal.returns
+unfolding word_in
+returns c = rw (← c.is_IsWord.ensures, c.if-is_word.false, ← c.is_word-2.ensures, c.if-is_word-2.false)
