@@ -6,16 +6,16 @@ use Rattle.settings_values.proofs.align_line.Goals as goal
 
 pub returns-then-is_word : goal.returns-then-is_word
 unfolding word_in
-returns-then-is_word c = c.line_with.ensures ∙ rw (← c.is_IsWord.ensures, c.if-is_word.true)
+returns-then-is_word c = c.line_with.ensures ∙ rw (← c.is_word.ensures, c.if-is_word.true)
 
 pub returns-then-is_word-2 : goal.returns-then-is_word-2
 unfolding word_in
-returns-then-is_word-2 c = c.line_with-then-is_word-2.ensures ∙ rw (← c.is_IsWord.ensures, c.if-is_word.false, ← c.is_word-2.ensures, c.if-is_word-2.true)
+returns-then-is_word-2 c = c.line_with-then-is_word-2.ensures ∙ rw (← c.is_word.ensures, c.if-is_word.false, ← c.is_word-2.ensures, c.if-is_word-2.true)
 
 pub returns-then-is_word-3 : goal.returns-then-is_word-3
 unfolding word_in
-returns-then-is_word-3 c = c.line_with-then-is_word-3.ensures ∙ rw (← c.is_IsWord.ensures, c.if-is_word.false, ← c.is_word-2.ensures, c.if-is_word-2.false, ← c.is_word-3.ensures, c.if-is_word-3.true)
+returns-then-is_word-3 c = c.line_with-then-is_word-3.ensures ∙ rw (← c.is_word.ensures, c.if-is_word.false, ← c.is_word-2.ensures, c.if-is_word-2.false, ← c.is_word-3.ensures, c.if-is_word-3.true)
 
 pub returns : goal.returns
 unfolding word_in
-returns c = rw (← c.is_IsWord.ensures, c.if-is_word.false, ← c.is_word-2.ensures, c.if-is_word-2.false, ← c.is_word-3.ensures, c.if-is_word-3.false) (sym (line-unaligned c.args.at))
+returns c = rw (← c.is_word.ensures, c.if-is_word.false, ← c.is_word-2.ensures, c.if-is_word-2.false, ← c.is_word-3.ensures, c.if-is_word-3.false) (sym (line-unaligned c.args.at))

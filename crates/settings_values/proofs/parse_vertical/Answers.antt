@@ -4,12 +4,12 @@ use Rattle.settings_values.proofs.parse_vertical.Goals as goal
 
 pub returns-then-is_word : goal.returns-then-is_word
 unfolding word_in
-returns-then-is_word c = rw (← c.is_IsWord.ensures, c.if-is_word.true)
+returns-then-is_word c = rw (← c.is_word.ensures, c.if-is_word.true)
 
 pub returns-then-is_word-2 : goal.returns-then-is_word-2
 unfolding word_in
-returns-then-is_word-2 c = rw (← c.is_IsWord.ensures, c.if-is_word.false, ← c.is_word-2.ensures, c.if-is_word-2.true)
+returns-then-is_word-2 c = rw (← c.is_word.ensures, c.if-is_word.false, ← c.is_word-2.ensures, c.if-is_word-2.true)
 
 pub returns : goal.returns
 unfolding word_in
-returns c = rw (← c.is_IsWord.ensures, c.if-is_word.false, ← c.is_word-2.ensures, c.if-is_word-2.false)
+returns c = rw (← c.is_word.ensures, c.if-is_word.false, ← c.is_word-2.ensures, c.if-is_word-2.false)
