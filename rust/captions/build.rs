@@ -69,17 +69,17 @@ fn made() -> Result<PathBuf, String> {
 
 fn make(top: &Path) -> Result<(), String> {
     println!(
-        "cargo:warning={ARCHIVE} was missing or older than its sources: running `rt staticlib \
-         captions`, which proves the library first and takes some six minutes the first time"
+        "cargo:warning={ARCHIVE} was missing or older than its sources: running `tools/build \
+         library`, which proves the library first and takes some six minutes the first time"
     );
-    let run = Command::new("rt")
-        .args(["staticlib", "captions"])
+    let run = Command::new(top.join("tools/build"))
+        .arg("library")
         .current_dir(top)
         .stdout(io::stderr())
         .status();
     match run {
         Ok(status) if status.success() => Ok(()),
-        Ok(status) => Err(format!("`rt staticlib captions` fails: {status}")),
+        Ok(status) => Err(format!("`tools/build library` fails: {status}")),
         Err(why) => Err(format!(
             "{ARCHIVE} is missing or older than its sources, and `rt`, which makes it, does not \
              run: {why}. CAPTIONS_LIB_DIR may name a folder that has it."
@@ -96,8 +96,11 @@ fn modified(path: &Path) -> Option<SystemTime> {
     fs::metadata(path).ok()?.modified().ok()
 }
 
-/// When the newest source at a path, a folder or a file, was changed.
+/// When the newest source at a path, a folder or a file, was changed. What `rt` made, in `out`, is none.
 fn newest_in(path: &Path) -> Option<SystemTime> {
+    if path.ends_with("out") {
+        return None;
+    }
     if path.is_dir() {
         let inside = fs::read_dir(path).ok()?;
         let times = inside.flatten().map(|inner| newest_in(&inner.path()));

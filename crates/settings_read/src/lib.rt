@@ -1,4 +1,6 @@
 // Settings read from a text, word by word. Document 02, K10.
+#![tactic(auto)]
+
 ghost use Rattle.std.specs.Prelude.{◌≡◌, [], true, ◌+◌, ◌≤◌, length};
 ghost use Rattle.vtt_timing.specs.Read.{in_run};
 ghost use Rattle.settings.specs.Grammar.{with_vertical, with_line, with_position, with_size, with_align};

@@ -1,4 +1,6 @@
 // Settings written in their fixed form: judged and measured first, so that a refusal writes nothing. Document 02, K10.
+#![tactic(auto)]
+
 ghost use Rattle.std.specs.Prelude.{◌≡◌, ◌+◌, ◌≤◌, length, take};
 ghost use Rattle.base.specs.Over.{over};
 ghost use Rattle.wvtt_entry_write.specs.Writing.{after};

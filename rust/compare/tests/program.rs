@@ -176,7 +176,7 @@ fn broken(bytes: &[u8]) -> io::Result<OwnedFd> {
 /// The output of the program, which always ends with status 0 and says nothing else.
 fn run(folder: &Folder, feed: &Feed, input: &[u8]) -> Vec<u8> {
     let child = feed.start(&folder.0, input);
-    let child = child.expect("`rt check sample_table` makes the program");
+    let child = child.expect("`tools/build program` makes the program");
     let output = child.wait_with_output().expect("the program ends");
     assert_eq!(output.status.code(), Some(0), "{output:?}");
     assert!(output.stderr.is_empty(), "{output:?}");
