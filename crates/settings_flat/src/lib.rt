@@ -1,4 +1,6 @@
 // Settings as C sees them: numbers for values. Document 02, K10.
+#![tactic(auto)]
+
 ghost use Rattle.std.specs.Prelude.{◌≡◌, ◌<◌, length};
 ghost use Rattle.std.specs.Int.Signed.{mag};
 ghost use Rattle.wvtt_entry_write.specs.Writing.{after};
