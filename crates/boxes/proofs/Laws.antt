@@ -1,20 +1,16 @@
 -- Laws of the definitions of specs/Boxes.antt: what a step that gives a box says, and the boxes of a container with no fuel in sight.
 use Prim.Native.Nat.{ℕ, zero, suc, ◌+◌, ◌-◌, ◌≤◌, ◌<◌}
 use mathlib.Core.Path.{◌≡◌, refl, sym, ◌∙◌}
-use mathlib.Core.List.{List, [], ◌∷◌}
+use mathlib.Core.List.{List}
 use mathlib.Core.Bool.{Bool, true, false}
-use mathlib.Core.Logic.{⊎_elim}
 use native.Mathlib.Omega.{arith}
 use native.Mathlib.Nat.{not-suc-le-zero}
-use types.Run.{OneOf}
-use denote.Enum.Declared.{tag_of, declared}
 use lib.Dec.{ltb, leb}
 use borrow.Author.Tests.{ltb-false, leb-false, le-leb, lt-leb, lt-ltb, le-ltb}
 use Rattle.base.specs.Choice.{pick}
 use Rattle.verdict.specs.declared.Refusal.{Refusal}
 use Rattle.verdict.specs.Judgement.{fault}
 use Rattle.fields.specs.BigEndian.{be}
-use Rattle.boxes.specs.contracts.Step.{enum as Step-enum}
 use Rattle.boxes.specs.declared.Step.{Step}
 use Rattle.boxes.specs.declared.Step.TheVariants.{Box, Refused as Stopped, End}
 use Rattle.boxes.specs.Boxes.{step_at, stopped_by, Boxes, clean, broken, box, on_step, boxes_f, boxes_in, place_of, passed}

@@ -1,7 +1,6 @@
 -- Laws of settings that are put into a slice: joining, words behind a space, hundredths, and a number's size.
 use Prim.Native.Nat.{ℕ, suc, ◌+◌, ◌*◌, ◌/◌, ◌%◌, ◌^◌, ◌≤◌, ◌<◌}
 use mathlib.Core.Path.{◌≡◌, refl, sym, ap, ◌∙◌}
-use mathlib.Core.Logic.{⊎_elim}
 use mathlib.Core.Bool.{Bool, true, false}
 use mathlib.Core.List.{List, [], ◌∷◌, ◌++◌}
 use native.Mathlib.Omega.{arith}
@@ -12,8 +11,6 @@ use lib.IntN.{ℤ, pos, negsuc, nat_abs, ◌-ℤ◌}
 use lib.Signed.{lt_z, mag, non_neg}
 use lib.ListN.{length, take, drop, set, length-append}
 use lib.Seq.{take_at, length-take-le}
-use types.Run.{OneOf}
-use denote.Enum.Declared.{tag_of, declared}
 use mir.Syntax.{w16, w32}
 use mir.Val.{SFits, to_z, of_z}
 use mir.Facts.{to_z-of_z}
@@ -26,7 +23,6 @@ use Rattle.decimal.specs.Decimal.{decimal}
 use Rattle.decimal.proofs.Laws.{length-one, length_more}
 use Rattle.utf8.specs.Strings.{DASH}
 use Rattle.timestamps.specs.Timestamps.{DOT}
-use Rattle.settings.specs.contracts.Line.{enum as Line-enum}
 use Rattle.settings.specs.declared.Line.{Line}
 use Rattle.settings.specs.declared.Line.TheVariants.{Auto as LineAuto, Number, Percent as LinePercent}
 use Rattle.settings.specs.declared.LineAlign.{LineAlign}

@@ -2,11 +2,8 @@
 use Prim.Native.Nat.{ℕ, ◌*◌, ◌≤◌, ◌<◌}
 use mathlib.Core.Path.{◌≡◌, refl, sym, ap, ap₂, ◌∙◌}
 use mathlib.Core.Bool.{true, false, not}
-use mathlib.Core.Logic.{⊎_elim}
-use mathlib.Core.List.{List, [], ◌∷◌}
+use mathlib.Core.List.{List, []}
 use native.Mathlib.Omega.{arith}
-use types.Run.{OneOf}
-use denote.Enum.Declared.{tag_of, declared}
 use borrow.Author.Tests.{not-false, lt-ltb, le-ltb}
 use lib.ListN.{length}
 use Rattle.verdict.specs.declared.Refusal.{Refusal}
@@ -21,7 +18,6 @@ use Rattle.records_write.proofs.Laws.{length-records}
 use Rattle.tx3g_entry.specs.Entry.{judge_entry}
 use Rattle.tx3g_stock.specs.declared.Counts.{Counts}
 use Rattle.tx3g_stock.specs.Stock.{judge_stock, counts_of}
-use Rattle.tx3g_convert.specs.contracts.Converted.{enum as Converted-enum}
 use Rattle.tx3g_convert.specs.declared.State.{State}
 use Rattle.tx3g_convert.specs.declared.Converted.{Converted}
 use Rattle.tx3g_convert.specs.declared.Converted.TheVariants.{Done, BadEntry, BadTrack, NoRoom}

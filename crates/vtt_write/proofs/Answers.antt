@@ -1,13 +1,10 @@
 -- The answers: whose fault it is, the room, and what is written.
 use Prim.Native.Nat.{ℕ, ◌+◌, ◌≤◌, ◌<◌}
 use mathlib.Core.Path.{◌≡◌, refl, sym, ap, ◌∙◌}
-use mathlib.Core.Logic.{⊎_elim}
 use mathlib.Core.Bool.{Bool, true, false}
-use mathlib.Core.List.{List, [], ◌∷◌}
+use mathlib.Core.List.{List}
 use Rattle.base.specs.Choice.{pick}
 use native.Mathlib.Omega.{arith}
-use types.Run.{OneOf}
-use denote.Enum.Declared.{tag_of, declared}
 use borrow.Author.Tests.{lt-ltb, le-ltb, ltb-false}
 use lib.Dec.{ltb}
 use lib.ListN.{length}
@@ -22,7 +19,6 @@ use Rattle.records.specs.Records.{count}
 use Rattle.cues.specs.Judgement.{judge_list}
 use Rattle.cues.specs.List.{Sound}
 use Rattle.cues.proofs.Sound.{fine-iff}
-use Rattle.vtt_write.specs.contracts.FileWritten.{enum as FileWritten-enum}
 use Rattle.vtt_write.specs.declared.FileWritten.{FileWritten}
 use Rattle.vtt_write.specs.declared.FileWritten.TheVariants.{Done, BadConfiguration, BadList, NoRoom}
 use Rattle.vtt_write.specs.Writing.{file_bytes, by_both, write_room, lent, written_of, after}

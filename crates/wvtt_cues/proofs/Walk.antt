@@ -1,13 +1,10 @@
 -- Walking a sample, as specs/Walk.antt says it.
 use Prim.Native.Nat.{ℕ, zero, suc, ◌-◌, ◌≤◌, ◌<◌}
 use mathlib.Core.Path.{◌≡◌, refl, sym, ◌∙◌, subst}
-use mathlib.Core.List.{List, [], ◌∷◌}
+use mathlib.Core.List.{List, []}
 use mathlib.Core.Bool.{Bool, true, false}
-use mathlib.Core.Logic.{⊎_elim}
 use native.Mathlib.Omega.{arith}
 use native.Mathlib.Nat.{not-suc-le-zero}
-use types.Run.{OneOf}
-use denote.Enum.Declared.{tag_of, declared}
 use lib.Dec.{eqb}
 use lib.ListN.{length}
 use borrow.Author.Tests.{eqb-true, eqb-false}
@@ -26,7 +23,6 @@ use Rattle.wvtt_cues.specs.declared.Held.{Held}
 use Rattle.wvtt_cues.specs.declared.Held.TheVariants.{Cue, Refused, End}
 use Rattle.wvtt_cues.specs.Cues.{nowhere, placed, body_of, with_id, parts_of, if_whole, inner_of, held_then, cues_in, cue_by, next_cue}
 use Rattle.wvtt_cues.specs.Walk.{Within, Inside, held_from, Means, NextMeans}
-use Rattle.wvtt_cues.specs.contracts.Held.{enum as Held-enum}
 use Rattle.wvtt_cues.proofs.Laws.{next-stop, next-found, next-other}
 
 -- ---- parts lie within the sample

@@ -1,8 +1,6 @@
 use Prim.Native.Nat.{◌+◌, ◌-◌, ◌*◌, ◌≤◌}
-use mathlib.Core.Logic.{⊎_elim}
 use native.Mathlib.Omega.{arith}
 use lib.ListN.{get_or}
-use borrow.Author.Tests.{ltb-true}
 use Rattle.profile.specs.Machine.{clock, most}
 use Rattle.profile_times.specs.Terms.{lows}
 use Rattle.profile_times.proofs.Clock.{units, rests_of, rests, none_read, all_read, ends, below, above, top-fits, late, on}

@@ -1,6 +1,5 @@
 -- A cue is counted where there are bytes.
 use native.Mathlib.Numerals.{add-one}
-use mathlib.Core.Logic.{⊎_elim}
 use borrow.Author.Tests.{lt-ltb, le-ltb}
 use Rattle.tx3g_convert.proofs.behind.Goals.{then-n-gt0, else-n-gt0}
 use Rattle.tx3g_convert.proofs.behind.Goals as goal

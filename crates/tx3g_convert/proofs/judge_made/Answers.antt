@@ -1,7 +1,5 @@
 -- Past a limit, or without a zero byte, the length is enough; else the caption, with its payload where it was made.
 use mathlib.Core.Path.{sym, ◌∙◌}
-use mathlib.Core.Logic.{⊎_elim}
-use borrow.Author.Tests.{not-true}
 use Rattle.base.proofs.Choice.{true-false}
 use Rattle.tx3g_convert.proofs.Judging.{made-sized, judged-made}
 use Rattle.tx3g_convert.proofs.judge_made.Goals.{then-past_limits-via-then-past_limits, then-past_limits-via-else-past_limits+then-not-has_zero}

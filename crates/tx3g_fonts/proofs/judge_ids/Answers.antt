@@ -4,7 +4,6 @@ use Rattle.verdict.specs.Judgement.{each}
 use Rattle.verdict.proofs.Judgement.{each_more, each-stops}
 use lib.ListN.{length}
 use mathlib.Core.Path.{◌≡◌, refl, sym, ◌∙◌}
-use mathlib.Core.Logic.{⊎_elim}
 use mathlib.Core.Bool.{false}
 use Prim.Native.Nat.{◌+◌, ◌-◌, ◌≤◌}
 use native.Mathlib.Omega.{arith}
