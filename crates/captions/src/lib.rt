@@ -1,4 +1,6 @@
 // The library for C and Rust: every public operation under the prefix `captions_`, answers by value.
+#![tactic(auto)]
+
 ghost use Rattle.std.specs.Prelude.{◌≡◌, length};
 ghost use Rattle.verdict.specs.Judgement.{text_at};
 ghost use Rattle.utf8.specs.Utf8.{utf8, utf8_begun};
@@ -14,20 +16,20 @@ ghost use Rattle.settings.specs.Reading.{read_settings};
 ghost use Rattle.settings_write.specs.Writing.{record_with};
 ghost use Rattle.settings_flat.specs.Flat.{flat_read, settings_of, given_room, given_written};
 ghost use Rattle.wvtt_cues.specs.Cues.{next_cue};
-ghost use Rattle.wvtt_entry.specs.Reading.{read_entry as readWvttEntry};
-ghost use Rattle.wvtt_entry_write.specs.Writing.{label_of, entry_bytes, room_of, written_of, after as writtenAfter};
+ghost use Rattle.wvtt_entry.specs.Reading.{read_entry as read_wvtt_entry};
+ghost use Rattle.wvtt_entry_write.specs.Writing.{label_of, entry_bytes, room_of, written_of, after as written_after};
 ghost use Rattle.cues.specs.Judgement.{judge_list};
 ghost use Rattle.track.specs.Track.{judge_track};
 ghost use Rattle.pack.specs.Packing.{packed_track, table_bytes, samples_bytes, pack_room, packed_of, after};
 ghost use Rattle.unpack.specs.Unpacking.{track_cues, unpack_room, unpack_of, out_of};
-ghost use Rattle.table.specs.Parts.{table_of, content_of as samplesOf};
+ghost use Rattle.table.specs.Parts.{table_of, content_of as samples_of};
 ghost use Rattle.table_lasting.specs.Lasting.{lasting_of};
 ghost use Rattle.table_lasting.specs.Dropping.{drop_room, drop_of, out_of as drop_out};
 ghost use Rattle.vtt_read.specs.Reading.{file_records, file_pool, read_room, read_of, out_of as file_out};
 ghost use Rattle.vtt_write.specs.Writing.{file_bytes, write_room, written_of as file_written, after as file_after};
 ghost use Rattle.records_write.specs.Records.{records_of, pool_of};
 ghost use Rattle.conform.specs.Conformance.{checked};
-ghost use Rattle.tx3g_read.specs.Entry.{read_entry as readTx3gEntry, font_in};
+ghost use Rattle.tx3g_read.specs.Entry.{read_entry as read_tx3g_entry, font_in};
 ghost use Rattle.tx3g_read.specs.Sample.{content_of};
 ghost use Rattle.tx3g_runs.specs.Runs.{next_run};
 ghost use Rattle.tx3g_style.specs.Style.{style_of};
@@ -1100,7 +1102,7 @@ pub extern "C" fn captions_wvtt_write_settings(
     text: &mut [u8],
 ) -> CaptionsWritten
     ensures value { result ≡ flat_written (given_written settings region.now (length text.old)) }
-    ensures text_after { text.new ≡ writtenAfter (given_written settings region.now (length text.old)) (written (record_with (settings_of settings) region.now)) text.old }
+    ensures text_after { text.new ≡ written_after (given_written settings region.now (length text.old)) (written (record_with (settings_of settings) region.now)) text.old }
 {
     let w = settings_flat::write_given(settings, region, &mut *text);
     flat_written(w)
@@ -1123,7 +1125,7 @@ pub extern "C" fn captions_wvtt_next_cue(sample: &[u8], from: usize) -> Captions
 
 #[unsafe(no_mangle)]
 pub extern "C" fn captions_wvtt_read_entry(entry: &[u8]) -> CaptionsWvttEntry
-    ensures { result ≡ flat_wvtt_entry (readWvttEntry entry.now) }
+    ensures { result ≡ flat_wvtt_entry (read_wvtt_entry entry.now) }
 {
     flat_wvtt_entry(wvtt_entry::read_entry(entry))
 }
@@ -1150,7 +1152,7 @@ pub extern "C" fn captions_wvtt_write_entry(
     entry: &mut [u8],
 ) -> CaptionsWritten
     ensures value { result ≡ flat_written (written_of configuration.now (label_of labelled label.now) (length entry.old)) }
-    ensures after { entry.new ≡ writtenAfter (written_of configuration.now (label_of labelled label.now) (length entry.old)) (entry_bytes configuration.now (label_of labelled label.now) data_reference_index) entry.old }
+    ensures after { entry.new ≡ written_after (written_of configuration.now (label_of labelled label.now) (length entry.old)) (entry_bytes configuration.now (label_of labelled label.now) data_reference_index) entry.old }
 {
     let w = wvtt_entry_write::write_entry(
         configuration,
@@ -1269,7 +1271,7 @@ pub extern "C" fn captions_drop_zero_durations(
 ) -> CaptionsDropped
     ensures value { result ≡ flat_dropped (drop_of table.now samples.now (length table_out.old) (length samples_out.old)) }
     ensures table_out_after { table_out.new ≡ drop_out (drop_of table.now samples.now (length table_out.old) (length samples_out.old)) (table_of (lasting_of table.now samples.now)) table_out.old }
-    ensures samples_out_after { samples_out.new ≡ drop_out (drop_of table.now samples.now (length table_out.old) (length samples_out.old)) (samplesOf (lasting_of table.now samples.now)) samples_out.old }
+    ensures samples_out_after { samples_out.new ≡ drop_out (drop_of table.now samples.now (length table_out.old) (length samples_out.old)) (samples_of (lasting_of table.now samples.now)) samples_out.old }
 {
     let d = table_lasting::drop_zero_durations(table, samples, &mut *table_out, &mut *samples_out);
     flat_dropped(d)
@@ -1327,7 +1329,7 @@ pub extern "C" fn captions_vtt_write(
 
 #[unsafe(no_mangle)]
 pub extern "C" fn captions_tx3g_read_entry(entry: &[u8]) -> CaptionsTx3gEntry
-    ensures { result ≡ flat_tx3g_entry (readTx3gEntry entry.now) }
+    ensures { result ≡ flat_tx3g_entry (read_tx3g_entry entry.now) }
 {
     flat_tx3g_entry(tx3g_read::read_entry(entry))
 }

@@ -478,10 +478,10 @@ profile-listed s =
 -- what is listed is listed with 20, too
 with-settings : (Says : ℕ → ℕ → Type 0) (v : Verdict) → Listed Says v → SettingsListed Says v
 with-settings Says Fine h = tt
-with-settings Says (Refused r) h = (inl h.0, h.1.0, h.1.1)
+with-settings Says (Refused r) h = (inl h.0, h.1, h.2)
 
 settings-listed : (s : List ℕ) → SettingsListed (InSettings s) (of_settings (read_settings s))
-unfolding read_settings
+unfolding read_settings fault
 settings-listed s = go (ltb 255 (length s)) (judged_by identifier_text identifier_begun s) refl (text-at-listed (InSettings s) identifier_text identifier_begun offsets_are.identifier 0 s (λ q f. (refl, f)))
   where
     words-listed : (a : Read) → read_words (words 0 s) [] unread ≡ a → SettingsListed (InSettings s) (of_settings a)

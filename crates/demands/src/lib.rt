@@ -1,5 +1,7 @@
 // The operations, each with the contract that the demands start from (specs/Calls.antt). The demands are theorems about every such call (specs/), with their
 // proofs (proofs/).
+#![tactic(auto)]
+
 ghost use Rattle.demands.specs.Calls.{PackCall, CheckCall, UnpackCall, ReadCall, WriteCall, ConvertCall, DropCall, SettingsCall};
 
 use conform::{Checked, check_track};

@@ -1,0 +1,7 @@
+-- `captions::captions_wvtt_entry_room` meets its contract: the answer of the operation, as C sees it.
+use Rattle.captions.specs.Flat.{flat_written}
+use mathlib.Core.Path.{ap, ◌∙◌}
+use Rattle.captions.proofs.captions_wvtt_entry_room.Goals as goal
+
+pub returns : goal.returns
+returns c = c.flat_written.ensures ∙ ap flat_written c.entry_room.ensures

@@ -1,0 +1,10 @@
+-- `captions::captions_wvtt_judge_payload` meets its contract: the answer of the operation, as C sees it.
+use mathlib.Core.Path.{ap, ◌∙◌}
+use Rattle.viable.specs.declared.Judged.{Judged}
+use Rattle.verdict.specs.Judgement.{text_at}
+use Rattle.captions.specs.Flat.{flat_verdict, flat_text}
+use Rattle.captions.proofs.captions_wvtt_judge_payload.Goals as goal
+
+pub returns : goal.returns
+unfolding flat_text
+returns c = c.flat_text.ensures ∙ ap (λ (j : Judged). flat_verdict (text_at 0 j)) c.judge_payload.ensures

@@ -1,0 +1,7 @@
+-- `captions::captions_wvtt_read_entry` meets its contract: the answer of the operation, as C sees it.
+use Rattle.captions.specs.Flat.{flat_wvtt_entry}
+use mathlib.Core.Path.{ap, ◌∙◌}
+use Rattle.captions.proofs.captions_wvtt_read_entry.Goals as goal
+
+pub returns : goal.returns
+returns c = c.flat_wvtt_entry.ensures ∙ ap flat_wvtt_entry c.read_entry.ensures
