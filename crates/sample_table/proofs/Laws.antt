@@ -9,14 +9,13 @@ use lib.ListN.{length}
 use mir.Syntax.{w64}
 use mir.Val.{SFits, to_z, of_z}
 use mir.ValLaws.{to_z-of_z}
-use Rattle.libc.specs.Io.{Moved}
 use Rattle.input.specs.Reading.{line_at}
 use Rattle.input.specs.Reads.{Read, chunk_of, if_last, line_by}
 use Rattle.input.specs.declared.Reading.{Reading}
 use Rattle.input.specs.declared.Chunk.{Chunk}
 use Rattle.input.specs.declared.Line.{Line}
 use Rattle.input.specs.declared.Line.TheVariants.{Bad}
-use Rattle.sample_table.specs.Reads.{Allowed, AllAllowed, ByOneRead, ByReads}
+use Rattle.sample_table.specs.Reads.{Moved, Allowed, AllAllowed, ByOneRead, ByReads}
 
 all-with : (xs : List Read) (x : Read) → AllAllowed xs → Allowed x → AllAllowed (xs ++ x ∷ [])
 unfolding AllAllowed

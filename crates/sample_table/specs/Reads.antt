@@ -1,10 +1,14 @@
--- What can be said of the program's reads of standard input: which bytes come is C's, and the kit's contract of `read` bounds what it answers.
-use Rattle.std.specs.Prelude.{◌≡◌, List, [], ◌∷◌, length}
-use Rattle.libc.specs.Io.{Moved}
+-- What can be said of the program's reads: which bytes come is the system's, and the contract of std's `read` bounds what it answers.
+use Rattle.std.specs.Prelude.{ℕ, ◌≡◌, ◌≤◌, List, [], ◌∷◌, length, ℤ, pos, negsuc}
 use Rattle.input.specs.Reads.{Read, chunk_from, line_by}
 use Rattle.input.specs.declared.Reading.{Reading}
 use Rattle.input.specs.declared.Chunk.{Chunk}
 use Rattle.input.specs.declared.Line.{Line}
+
+-- what a read into n bytes may answer: how many it moved, at most n, or -1
+abbrev pub Moved : ℕ → ℤ → Type 0
+Moved n (pos k) = k ≤ n
+Moved n (negsuc k) = k ≡ 0
 
 -- a read into 65,536 bytes that the contract of `read` allows; each of several is
 abbrev pub Allowed : Read → Type 0
