@@ -74,8 +74,8 @@ loop-i-preserved c =
 
 pub returns-then-begin-limit : goal.returns-then-begin-limit
 unfolding row_count
-returns-then-begin-limit c = c.refused-then-begin-limit.ensures ∙ ends-short _ _ _ _ _ _ c.loop-i.invariant.0 c.loop-i-test.false (rw (← c.tick_of-limit.ensures.0) c.if-begin-limit.true) c.loop-i.invariant.4
+returns-then-begin-limit c = c.refused-then-begin-limit.ensures ∙ ends-short _ _ _ _ _ _ c.loop-i.invariant.0 c.loop-i-test.false (omega (arith, c.tick_of-limit.ensures.0)) c.loop-i.invariant.4
 
 pub returns : goal.returns
 unfolding row_count
-returns c = ends-well _ _ _ _ _ _ c.loop-i-test.false (rw (← c.tick_of-limit.ensures.0) c.if-begin-limit.false) c.loop-i.invariant.4
+returns c = ends-well _ _ _ _ _ _ c.loop-i-test.false (omega (arith, c.tick_of-limit.ensures.0)) c.loop-i.invariant.4

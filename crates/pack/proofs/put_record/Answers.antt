@@ -19,7 +19,7 @@ returns-then-end_tick-b c = let h : end_tick c.args.scale c.args.records.now c.a
 pub put_cue-requires : goal.put_cue-requires
 unfolding record_size
 put_cue-requires c = let a = c.args in
-    let h : a.b < end_tick a.scale a.records.now a.k = omega (arith, c.end_tick.ensures, c.if-end_tick-b.false) in
+    let h : a.b < end_tick a.scale a.records.now a.k = omega (arith, c.end_tick.ensures) in
     let r : a.at + record_size a.records.now a.k ≤ length a.out.now = rw (lt-ltb _ _ h) at c.requires.k_in_bounds_2 in
     let o = in_order a.records.now a.k in (
       rw (c.payload_length-payload.ensures.0, c.settings_length-settings.ensures.0, c.identifier_length-identifier.ensures.0) r,
@@ -32,6 +32,6 @@ put_cue-requires c = let a = c.args in
 pub returns : goal.returns
 unfolding record_size
 returns c = let a = c.args in
-    let h : a.b < end_tick a.scale a.records.now a.k = omega (arith, c.end_tick.ensures, c.if-end_tick-b.false) in
+    let h : a.b < end_tick a.scale a.records.now a.k = omega (arith, c.end_tick.ensures) in
     let e = body_is a.records.now a.pool.now a.k _ _ _ _ _ c.source_id-id.ensures.0 c.text_offset-from.ensures.0 c.identifier_length-identifier.ensures.0 c.settings_length-settings.ensures.0 c.payload_length-payload.ensures.0 in
     rw (lt-ltb _ _ h) record { value = c.put_cue.ensures.0 ∙ rw (c.payload_length-payload.ensures.0, c.settings_length-settings.ensures.0, c.identifier_length-identifier.ensures.0); out_after = c.put_cue.ensures.1 ∙ rw e (ap (wrote a.out.now a.at) (one-cue _)) }

@@ -1,16 +1,17 @@
 -- Limit, payload rule, profile.
 use borrow.Author.Tests.{lt-ltb}
 use Rattle.profile_judge.specs.Judgement.{judge_profile}
+use lib.ListN.{length}
 use native.Mathlib.Omega.{arith}
 use Rattle.profile_judge.proofs.Laws.{text-first, tags-last}
 use Rattle.profile_judge.proofs.judge_profile.Goals as goal
 
 pub returns-then-payload-gt4095 : goal.returns-then-payload-gt4095
 unfolding judge_profile
-returns-then-payload-gt4095 c = rw (lt-ltb 4095 _ c.if-payload-gt4095.true) c.refused.ensures
+returns-then-payload-gt4095 c = rw (lt-ltb 4095 (length c.args.payload.now) (omega arith)) c.refused.ensures
 
 pub returns-in_default : goal.returns-in_default
-returns-in_default c = text-first c.args.payload.now (omega (arith, c.if-payload-gt4095.false)) _ _ _ c.judge_payload.ensures c.text_at-v.ensures c.in_default.is
+returns-in_default c = text-first c.args.payload.now (omega arith) _ _ _ c.judge_payload.ensures c.text_at-v.ensures c.in_default.is
 
 pub returns : goal.returns
-returns c = tags-last c.args.payload.now (omega (arith, c.if-payload-gt4095.false)) _ _ _ _ c.judge_payload.ensures c.text_at-v.ensures c.in-Fine.is c.judge_tags.ensures c.outside_at.ensures
+returns c = tags-last c.args.payload.now (omega arith) _ _ _ _ c.judge_payload.ensures c.text_at-v.ensures c.in-Fine.is c.judge_tags.ensures c.outside_at.ensures
