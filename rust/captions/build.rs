@@ -79,11 +79,11 @@ fn make(top: &Path) -> Result<(), String> {
         .status();
     match run {
         Ok(status) if status.success() => Ok(()),
-        Ok(status) => Err(format!("`tools/build library` fails: {status}")),
-        Err(why) => Err(format!(
-            "{ARCHIVE} is missing or older than its sources, and `rt`, which makes it, does not \
-             run: {why}. CAPTIONS_LIB_DIR may name a folder that has it."
+        Ok(status) => Err(format!(
+            "{ARCHIVE} is missing or older than its sources, and `tools/build library`, which makes \
+             it with `rt`, fails: {status}. CAPTIONS_LIB_DIR may name a folder that has it."
         )),
+        Err(why) => Err(format!("`tools/build library` does not start: {why}")),
     }
 }
 

@@ -34,7 +34,7 @@ pub record ReadingMeans : Type 0 where
   pub never_blinks : NeverBlinks
   -- at most one style holds a character
   pub style : OnlyOne
-  -- a `wvtt` entry is read as its index, the text of its one `vtt_c` and that of its one `vlab`, if it has one
+  -- a `wvtt` entry is read as its index, the text of its one `vttC` and that of its one `vlab`, if it has one
   pub entry : EntryHolds
   -- an entry that is written has no fault, and gives index, configuration and label back; its room is exact
   pub entry_back : ReadsBack

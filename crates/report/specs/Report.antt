@@ -36,7 +36,7 @@ at_end (negsuc k) = false
 unfoldable pub whole : Taken → Bool
 whole file = both (non_neg file.fd) (at_end file.more)
 
--- the program's whole output: the line, and both files by what C answered for them
+-- the program's whole output: the line, and both files by what the system answered for them
 unfoldable pub output_text : Line → Taken → Taken → List ℕ → List ℕ → List ℕ
 unfolding whole
 output_text line first second records pool = answer_text line (both (whole first) (whole second)) (take first.n records) (take second.n pool)

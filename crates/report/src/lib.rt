@@ -11,7 +11,7 @@ use input::Line;
 use listing::{put_refusal, put_rows};
 use pack::{Packed, pack};
 
-// What C answered for a file: the descriptor of the open, how many bytes of it stand in the buffer, and what a read behind them answered.
+// What the system answered for a file: the descriptor of the open, how many bytes of it stand in the buffer, and what a read behind them answered.
 #[derive(Clone, Copy)]
 pub struct Taken {
     pub fd: i32,
@@ -93,7 +93,7 @@ fn are_both(a: bool, b: bool) -> bool
     false
 }
 
-// The program's whole output: the line, and both files by what C answered for them.
+// The program's whole output: the line, and both files by what the system answered for them.
 pub fn put_output(
     line: Line,
     first: Taken,

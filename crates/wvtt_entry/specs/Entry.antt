@@ -10,7 +10,7 @@ use Rattle.text.specs.Rules.{configuration_text, label_text}
 use Rattle.text.specs.Beginnings.{configuration_begun, label_begun}
 use Rattle.entry_head.specs.Head.{judge_head}
 
--- `wvtt`; the boxes `vtt_c` (configuration) and `vlab` (label)
+-- `wvtt`; the boxes `vttC` (configuration) and `vlab` (label)
 abbrev pub wvtt : ℕ
 wvtt = 0x77767474
 
@@ -20,7 +20,7 @@ vtt_c = 0x76747443
 abbrev pub vlab : ℕ
 vlab = 0x766C6162
 
--- the text of a box: of `vtt_c` a configuration, of `vlab` a label; others are passed over
+-- the text of a box: of `vttC` a configuration, of `vlab` a label; others are passed over
 unfoldable pub judge_content : List ℕ → ℕ → ℕ → ℕ → ℕ → Verdict
 judge_content e p k b n =
     pick (eqb k vtt_c) (text_at p (judged_by configuration_text configuration_begun (part e b n)))

@@ -1,4 +1,4 @@
--- What a `wvtt` sample entry holds: the data reference index, and where the texts of its `vtt_c` and of its `vlab` stand.
+-- What a `wvtt` sample entry holds: the data reference index, and where the texts of its `vttC` and of its `vlab` stand.
 use Rattle.std.specs.Prelude.{ℕ, List, true, false, eqb, length}
 use Rattle.base.specs.Choice.{pick}
 use Rattle.verdict.specs.declared.Verdict.{Verdict}

@@ -20,7 +20,7 @@ abbrev pub label_of : Bool → List ℕ → Option (List ℕ)
 label_of true t = some t
 label_of false t = none
 
--- the boxes of an entry: `vtt_c`, and `vlab` if there is a label
+-- the boxes of an entry: `vttC`, and `vlab` if there is a label
 abbrev pub label_item : Option (List ℕ) → List Item
 label_item none = []
 label_item (some t) = record { kind = vlab; body = t } ∷ []

@@ -58,7 +58,7 @@ pub enum Reason {
 
 use Reason::*;
 
-/// The reasons by number, from 1 on, with their meaning.
+/// The reasons by number, from 1 on, with their meaning. Number 20 is a reason beside settings alone, [`judged_settings`].
 const REASONS: [(Reason, &str); 21] = [
     (BytesMissing, "bytes missing"),
     (BadSize, "a size that does not fit, or another entry type"),
@@ -79,7 +79,7 @@ const REASONS: [(Reason, &str); 21] = [
     (NoId, "a cue without ID"),
     (StyleBlock, "a STYLE or REGION block"),
     (Malformed, "a malformed line or block"),
-    (BadSetting, "a setting unknown, malformed or twice"),
+    (Unknown(20), "unknown"),
     (OutsideProfile, "a payload outside the tag profile"),
 ];
 
@@ -87,6 +87,7 @@ impl Reason {
     /// The reason's number.
     pub fn number(self) -> u32 {
         match (self, self.index()) {
+            (BadSetting, _) => 20,
             (Unknown(number), _) => number,
             (_, index) => index as u32 + 1,
         }
@@ -108,7 +109,11 @@ impl Reason {
 
 impl Display for Reason {
     fn fmt(&self, f: &mut fmt::Formatter) -> fmt::Result {
-        f.write_str(REASONS.get(self.index()).map_or("unknown", |row| row.1))
+        let words = REASONS.get(self.index()).map_or("unknown", |row| row.1);
+        f.write_str(match self {
+            BadSetting => "a setting unknown, malformed or twice",
+            _ => words,
+        })
     }
 }
 
@@ -153,6 +158,18 @@ pub(crate) fn judged(answer: CaptionsRefusal) -> Result<(), Refusal> {
         reason: Reason::of(answer.number),
         place: answer.place,
         offset: answer.offset,
+    })
+}
+
+/// As [`judged`], of settings that are read.
+#[inline]
+pub(crate) fn judged_settings(answer: CaptionsRefusal) -> Result<(), Refusal> {
+    judged(answer).map_err(|refusal| match refusal.reason {
+        Unknown(20) => Refusal {
+            reason: BadSetting,
+            ..refusal
+        },
+        _ => refusal,
     })
 }
 
@@ -287,12 +304,12 @@ mod tests {
 
     #[test]
     fn other_numbers_are_unknown() {
-        for number in [0, 22, u32::MAX] {
+        for number in [0, 20, 22, u32::MAX] {
             assert_eq!(Reason::of(number), Unknown(number));
             assert_eq!(Reason::of(number).number(), number);
         }
-        let refused = judged(answer(22, 2, 0)).expect_err("a number");
-        assert_eq!(refused.to_string(), "refused 22 2: unknown");
+        let refused = judged(answer(20, 2, 0)).expect_err("a number");
+        assert_eq!(refused.to_string(), "refused 20 2: unknown");
     }
 
     #[test]

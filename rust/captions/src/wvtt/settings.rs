@@ -2,7 +2,7 @@
 
 use crate::bytes::text as text_at;
 use crate::ffi::{self, CaptionsSettings};
-use crate::refusal::judged;
+use crate::refusal::{judged, judged_settings};
 use crate::Refusal;
 
 /// Whether the lines of a cue run from top to bottom, and which way they grow.
@@ -211,7 +211,7 @@ impl<'a> Settings<'a> {
 pub fn read_settings(text: &[u8]) -> Result<Settings<'_>, Refusal> {
     // SAFETY: pointer and length of a slice.
     let read = unsafe { ffi::captions_wvtt_read_settings(text.as_ptr(), text.len()) };
-    judged(read.refusal)?;
+    judged_settings(read.refusal)?;
     // SAFETY: of a text that is not refused, the name stands in it and is UTF-8 (crate `demands`,
     // `region-stands`).
     let region = unsafe { text_at(text, read.region_from..read.region_end) };
