@@ -46,7 +46,7 @@ cargo = $(CARGO) build --offline --release --manifest-path rust/Cargo.toml --tar
 all: $(BUILT)/$(SHARED) $(filter $(BUILT)/captions,$(COMMAND))
 
 # Cargo makes the static library, if it is missing or older than its sources, before it builds the crate.
-$(PROVED): $(shell find crates crates.txt -name '*.rt' -o -name '*.antt' -o -name '*.txt')
+$(PROVED): $(shell find crates crates.txt -name out -prune -o \( -name '*.rt' -o -name '*.antt' -o -name '*.txt' \) -print)
 	$(cargo) -p captions
 $(BUILT)/captions: $(if $(CAPTIONS_LIB_DIR),FORCE,$(PROVED)) $(shell find rust/Cargo.* rust/captions rust/command/[!t]* -type f)
 	$(cargo) -p captions_command

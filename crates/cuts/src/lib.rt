@@ -61,7 +61,7 @@ fn record_size(records: &[u8], i: usize) -> usize
 
 // From `first` on, past the records that have ended by b.
 fn skip_ended(scale: u32, records: &[u8], n: usize, first: usize, b: u64) -> usize
-    requires n_in_bounds { (n * 24 ≤ length records.now) × (first ≤ n) }
+    requires inside { (n * 24 ≤ length records.now) × (first ≤ n) }
     requires ended { Ended scale records.now first b }
     ensures { (result ≤ n) × Ended scale records.now result b }
 {
@@ -77,10 +77,10 @@ fn skip_ended(scale: u32, records: &[u8], n: usize, first: usize, b: u64) -> usi
 
 // From `last` on, to the first record that starts after b.
 fn pass_started(scale: u32, records: &[u8], n: usize, last: usize, b: u64) -> usize
-    requires n_in_bounds { (n * 24 ≤ length records.now) × (last ≤ n) }
+    requires inside { (n * 24 ≤ length records.now) × (last ≤ n) }
     requires started { Started scale records.now last b }
-    ensures lower_bound { (last ≤ result) × (result ≤ n) × (result < n → b < start_tick scale records.now result) }
-    ensures started_2 { Started scale records.now result b }
+    ensures stops { (last ≤ result) × (result ≤ n) × (result < n → b < start_tick scale records.now result) }
+    ensures all_started { Started scale records.now result b }
 {
     let mut i = last;
     while i < n {
@@ -130,7 +130,7 @@ fn scan_window(
     b: u64,
     top: u64,
 ) -> Scan
-    requires n_in_bounds { (n * 24 ≤ length records.now) × (n ≤ 1024) }
+    requires inside { (n * 24 ≤ length records.now) × (n ≤ 1024) }
     requires lasting { Lasting scale records.now n × Window scale records.now n first last b }
     ensures { (result.next ≡ nearest top b (ticks_to scale records.now last)) × (result.cues ≡ cues_size scale records.now b n) × (result.cues ≤ 268435456) }
 {

@@ -41,8 +41,8 @@ fn put_record(
     k: usize,
     b: u64,
 ) -> usize
-    requires k_in_bounds { (k * 24 + 24 ≤ length records.now) × (texts_end records.now k ≤ length pool.now) }
-    requires k_in_bounds_2 { at + pick (ltb b (end_tick scale records.now k)) (record_size records.now k) 0 ≤ length out.old }
+    requires inside { (k * 24 + 24 ≤ length records.now) × (texts_end records.now k ≤ length pool.now) }
+    requires room { at + pick (ltb b (end_tick scale records.now k)) (record_size records.now k) 0 ≤ length out.old }
     ensures value { result ≡ at + pick (ltb b (end_tick scale records.now k)) (record_size records.now k) 0 }
     ensures out_after { out.new ≡ wrote out.old at (cues_bytes (keep (ltb b (end_tick scale records.now k)) (body_of records.now pool.now k) [])) }
 {
@@ -69,7 +69,7 @@ fn put_cues(
     last: usize,
     b: u64,
 ) -> usize
-    requires n_in_bounds { (n * 24 ≤ length records.now) × (at + cues_size scale records.now b n ≤ length out.old) }
+    requires room { (n * 24 ≤ length records.now) × (at + cues_size scale records.now b n ≤ length out.old) }
     requires lasting { Lasting scale records.now n × Inside records.now pool.now n × Window scale records.now n first last b }
     ensures value { result ≡ at + cues_size scale records.now b n }
     ensures out_after { out.new ≡ wrote out.old at (cues_bytes (shown scale records.now pool.now b n)) }
@@ -95,7 +95,7 @@ fn put_sample(
     s: Stretch,
     b: u64,
 ) -> usize
-    requires n_in_bounds { (n * 24 ≤ length records.now) × (at + or_empty s.cues ≤ length out.old) }
+    requires room { (n * 24 ≤ length records.now) × (at + or_empty s.cues ≤ length out.old) }
     requires lasting { Lasting scale records.now n × Inside records.now pool.now n × From scale end records.now n b s }
     ensures value { result ≡ at + or_empty s.cues }
     ensures out_after { out.new ≡ wrote out.old at (sample_bytes (shown scale records.now pool.now b n)) }
@@ -116,7 +116,7 @@ fn write_track(
     samples: &mut [u8],
 )
     requires sound { Sound scale t records.now pool.now }
-    requires pool_in_bounds { (length (table_bytes (packed_track scale t records.now pool.now)) ≤ length table.old) × (length (samples_bytes (packed_track scale t records.now pool.now)) ≤ length samples.old) }
+    requires room { (length (table_bytes (packed_track scale t records.now pool.now)) ≤ length table.old) × (length (samples_bytes (packed_track scale t records.now pool.now)) ≤ length samples.old) }
     ensures table_after { table.new ≡ over (table_bytes (packed_track scale t records.now pool.now)) table.old }
     ensures samples_after { samples.new ≡ over (samples_bytes (packed_track scale t records.now pool.now)) samples.old }
 {

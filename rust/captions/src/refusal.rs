@@ -58,7 +58,8 @@ pub enum Reason {
 
 use Reason::*;
 
-/// The reasons by number, from 1 on, with their meaning. Number 20 is a reason beside settings alone, [`judged_settings`].
+/// The reasons by number, from 1 on, with their meaning. Number 20 is a reason beside settings
+/// alone, [`judged_settings`].
 const REASONS: [(Reason, &str); 21] = [
     (BytesMissing, "bytes missing"),
     (BadSize, "a size that does not fit, or another entry type"),

@@ -8,10 +8,10 @@ pub loop-i-init : goal.loop-i-init
 loop-i-init c = (omega arith, omega arith, c.requires.started)
 
 pub returns-then-b-start_tick : goal.returns-then-b-start_tick
-returns-then-b-start_tick c = record { lower_bound = (omega arith, omega arith, λ l. omega (arith, c.start_tick.ensures, c.if-b-start_tick.true)); started_2 = c.loop-i.invariant.2 }
+returns-then-b-start_tick c = record { stops = (omega arith, omega arith, λ l. omega (arith, c.start_tick.ensures, c.if-b-start_tick.true)); all_started = c.loop-i.invariant.2 }
 
 pub loop-i-preserved : goal.loop-i-preserved
 loop-i-preserved c = (omega arith, omega arith, below_next (λ j. start_tick c.args.scale c.args.records.now j ≤ c.args.b) _ c.loop-i.invariant.2 (omega (arith, c.start_tick.ensures, c.if-b-start_tick.false)))
 
 pub returns : goal.returns
-returns c = record { lower_bound = (omega arith, omega arith, λ l. absurd (omega (arith, c.loop-i-test.false))); started_2 = c.loop-i.invariant.2 }
+returns c = record { stops = (omega arith, omega arith, λ l. absurd (omega (arith, c.loop-i-test.false))); all_started = c.loop-i.invariant.2 }

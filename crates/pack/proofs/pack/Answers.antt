@@ -19,7 +19,7 @@ returns-then-samples-bytes c = let e = room-told _ _ _ _ _ _ _ _ _ _ c.pack_room
 
 pub write_track-requires : goal.write_track-requires
 write_track-requires c = let w = room-means _ _ _ _ _ _ _ _ c.pack_room-room.ensures c.in-Done.is in
-    record { sound = fine-sound _ _ _ _ w.0; pool_in_bounds = (omega (arith, w.1, c.if-table-rows.false), omega (arith, w.2, c.if-samples-bytes.false)) }
+    record { sound = fine-sound _ _ _ _ w.0; room = (omega (arith, w.1, c.if-table-rows.false), omega (arith, w.2, c.if-samples-bytes.false)) }
 
 pub returns : goal.returns
 returns c = let e = room-told _ _ _ _ _ _ _ _ _ _ c.pack_room-room.ensures c.in-Done.is in

@@ -20,7 +20,7 @@ pub put_record-to-requires : goal.put_record-to-requires
 put_record-to-requires c = let w = c.requires.lasting.2 in
     let l = c.loop-k in
     let r = room_for _ _ _ _ _ _ (w.started l.k c.loop-k-test.true) c.loop-k-test.true w.last_most in
-    record { k_in_bounds = (omega (arith, w.last_most), c.requires.lasting.1 l.k (omega (arith, w.last_most))); k_in_bounds_2 = omega (arith, r, l.invariant) }
+    record { inside = (omega (arith, w.last_most), c.requires.lasting.1 l.k (omega (arith, w.last_most))); room = omega (arith, r, l.invariant) }
 
 pub loop-k-preserved : goal.loop-k-preserved
 loop-k-preserved c = let w = c.requires.lasting.2 in

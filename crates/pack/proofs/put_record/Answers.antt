@@ -20,10 +20,10 @@ pub put_cue-requires : goal.put_cue-requires
 unfolding record_size
 put_cue-requires c = let a = c.args in
     let h : a.b < end_tick a.scale a.records.now a.k = omega (arith, c.end_tick.ensures) in
-    let r : a.at + record_size a.records.now a.k ≤ length a.out.now = rw (lt-ltb _ _ h) at c.requires.k_in_bounds_2 in
+    let r : a.at + record_size a.records.now a.k ≤ length a.out.now = rw (lt-ltb _ _ h) at c.requires.room in
     let o = in_order a.records.now a.k in (
       rw (c.payload_length-payload.ensures.0, c.settings_length-settings.ensures.0, c.identifier_length-identifier.ensures.0) r,
-      omega (arith, o.settings-at, o.payload-at, o.end-at, c.requires.k_in_bounds.1, c.payload_length-payload.ensures.0, c.settings_length-settings.ensures.0, c.identifier_length-identifier.ensures.0, c.text_offset-from.ensures.0),
+      omega (arith, o.settings-at, o.payload-at, o.end-at, c.requires.inside.1, c.payload_length-payload.ensures.0, c.settings_length-settings.ensures.0, c.identifier_length-identifier.ensures.0, c.text_offset-from.ensures.0),
       omega (arith, c.identifier_length-identifier.ensures.1),
       omega (arith, c.settings_length-settings.ensures.1),
       omega (arith, c.payload_length-payload.ensures.1),

@@ -10,7 +10,7 @@ use native.Mathlib.Omega.{arith}
 use Rattle.pack.proofs.put_sample.Goals as goal
 
 pub put_empty-requires : goal.put_empty-requires
-put_empty-requires c = let e = ap or_empty c.if-s-eq0.true in omega (arith, e, c.requires.n_in_bounds.1)
+put_empty-requires c = let e = ap or_empty c.if-s-eq0.true in omega (arith, e, c.requires.room.1)
 
 pub returns-then-s-eq0 : goal.returns-then-s-eq0
 returns-then-s-eq0 c = let e = ap or_empty c.if-s-eq0.true in
@@ -21,7 +21,7 @@ returns-then-s-eq0 c = let e = ap or_empty c.if-s-eq0.true in
 pub put_cues-requires : goal.put_cues-requires
 put_cues-requires c = let f = c.requires.lasting in
     let e = not-empty _ c.if-s-eq0.false in
-    record { n_in_bounds = (c.requires.n_in_bounds.0, omega (arith, e, f.2.cues_is, c.requires.n_in_bounds.1)); lasting = (f.0, f.1, f.2.window) }
+    record { room = (c.requires.room.0, omega (arith, e, f.2.cues_is, c.requires.room.1)); lasting = (f.0, f.1, f.2.window) }
 
 pub returns : goal.returns
 returns c = let a = c.args in

@@ -61,7 +61,7 @@ put_row-requires c =
     ) in
     let f = found in
     let r = table-room _ _ _ _ c.requires.sound _ _ c.loop-b.invariant.0 f.0 in
-    omega (arith, r, c.requires.pool_in_bounds.0, c.loop-b.invariant.8)
+    omega (arith, r, c.requires.room.0, c.loop-b.invariant.8)
 
 pub put_sample-at-requires : goal.put_sample-at-requires
 unfolding count
@@ -75,7 +75,7 @@ put_sample-at-requires c =
     let w = sound-timed _ _ _ _ c.requires.sound in
     let r = samples-room _ _ _ _ c.requires.sound _ _ l.0 f.0 in
     let q = ap or_empty f.1.cues_is in
-    record { n_in_bounds = (w.whole, omega (arith, r, q, l.5, l.9, c.requires.pool_in_bounds.1)); lasting = (w.lasts, sound-inside _ _ _ _ c.requires.sound, c.stretch_from-s.ensures) }
+    record { room = (w.whole, omega (arith, r, q, l.5, l.9, c.requires.room.1)); lasting = (w.lasts, sound-inside _ _ _ _ c.requires.sound, c.stretch_from-s.ensures) }
 
 pub overflow_add-i : goal.overflow_add-i
 overflow_add-i c = let a = c.args in
