@@ -4,3 +4,4 @@ pub mod Over
 pub mod Table
 pub mod Tests
 pub mod Iter
+pub mod Results

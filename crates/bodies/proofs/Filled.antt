@@ -6,7 +6,7 @@ use native.Mathlib.Omega.{arith}
 use native.Mathlib.Nat.{le_antisymm}
 use lib.Dec.{ltb}
 use borrow.Author.Tests.{ltb-false}
-use Rattle.verdict.specs.declared.Verdict.TheVariants.{Fine}
+use Rattle.verdict.specs.Verdict.{Fine}
 use Rattle.verdict.specs.Judgement.{◌gives◌at◌}
 use Rattle.verdict.proofs.Judgement.{both-fine}
 use Rattle.bodies.specs.Bodies.{filled}

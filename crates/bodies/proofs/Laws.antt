@@ -8,17 +8,19 @@ use lib.Dec.{eqb}
 use borrow.Author.Tests.{eq-eqb, ne_eqb, eqb-true}
 use Rattle.base.specs.Choice.{pick}
 use Rattle.verdict.specs.declared.Refusal.{Refusal}
-use Rattle.verdict.specs.declared.Verdict.{Verdict}
-use Rattle.verdict.specs.declared.Verdict.TheVariants.{Fine}
+use Rattle.verdict.specs.Verdict.{Verdict, Fine, Refused}
 use Rattle.verdict.proofs.Judgement.{both-fine}
 use Rattle.boxes.specs.declared.Step.{Step}
 use Rattle.boxes.specs.declared.Step.TheVariants.{Box, Refused as Stopped, End}
 use Rattle.boxes.specs.Boxes.{step_at, stopped_by, Boxes, clean, broken, box, on_step, boxes_f, boxes_in, judged}
 use Rattle.boxes.proofs.Laws.{boxes-at, boxes-box, NoBox, Lies, step-box}
-use Rattle.bodies.specs.declared.Body.{Body}
-use Rattle.bodies.specs.declared.Body.TheVariants.{At, Refused as Broken, Nowhere}
-use Rattle.bodies.specs.Terms.{missing}
+use Rattle.bodies.specs.Body.{Body, At, Refused as Broken, Nowhere}
 use Rattle.bodies.specs.Bodies.{body_of}
+
+-- where no box stands: a refused header, or the end
+abbrev pub missing : Verdict → Body
+missing Fine = Nowhere
+missing (Refused r) = Broken r
 
 -- the search: no further box, a box of the kind, a box of another
 pub body-stop : (k : ℕ) (s : List ℕ) (at end : ℕ) (t : Step) → step_at s at end ≡ t → NoBox t → body_of k (boxes_in s at end) ≡ missing (stopped_by t)

@@ -1,11 +1,10 @@
 -- Bodies of boxes: where one stands, and whether its content fills it.
 use Rattle.std.specs.Prelude.{ℕ, ltb, eqb}
 use Rattle.base.specs.Choice.{pick}
-use Rattle.verdict.specs.declared.Verdict.{Verdict}
+use Rattle.verdict.specs.Verdict.{Verdict}
 use Rattle.verdict.specs.Judgement.{◌gives◌at◌, ◌then◌}
 use Rattle.boxes.specs.Boxes.{Boxes, clean, broken, box}
-use Rattle.bodies.specs.declared.Body.{Body}
-use Rattle.bodies.specs.declared.Body.TheVariants.{At, Refused as Stopped, Nowhere}
+use Rattle.bodies.specs.Body.{Body, At, Refused as Stopped, Nowhere}
 
 -- where the body of the first box of kind k begins; or the refusal of a header before it
 unfoldable pub body_of : ℕ → Boxes → Body

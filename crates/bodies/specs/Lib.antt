@@ -1,2 +1,2 @@
+pub mod Body
 pub mod Bodies
-pub mod Terms

@@ -6,9 +6,16 @@ ghost use Rattle.base.specs.Choice.{any_of};
 ghost use Rattle.boxes.specs.Boxes.{step_at, stopped_by, boxes_in, passed};
 
 use fields::get32;
-use verdict::{Refusal, Verdict, fault_at};
+use verdict::{Reason, Refusal, Verdict};
 
-// What stands at a place of a container.
+// Where bytes stand: from `from` to before `end`.
+#[derive(Clone, Copy)]
+pub struct Part {
+    pub from: usize,
+    pub end: usize,
+}
+
+// What stands at a place of a container. An enum that readers take apart with `let .. else`, as document 01 requires. A kind is whatever four bytes the file has, so it is a number.
 #[derive(Clone, Copy)]
 pub enum Step {
     // A whole box: its type, where its body begins, and the place after it.
@@ -26,14 +33,14 @@ pub fn step_at(s: &[u8], at: usize, end: usize) -> Step
         return Step::End;
     }
     if end - at < 8 {
-        return Step::Refused(fault_at(1, at));
+        return Step::Refused(Reason::BytesMissing.fault_at(at));
     }
     let size = get32(s, at) as usize;
     if size < 8 {
-        return Step::Refused(fault_at(2, at));
+        return Step::Refused(Reason::BadSize.fault_at(at));
     }
     if end - at < size {
-        return Step::Refused(fault_at(1, at));
+        return Step::Refused(Reason::BytesMissing.fault_at(at));
     }
     let kind = get32(s, at + 4);
     Step::Box {
@@ -48,13 +55,13 @@ pub fn stopped_by(t: Step) -> Verdict
     ensures { result ≡ stopped_by t }
 {
     match t {
-        Step::Refused(why) => Verdict::Refused(why),
-        Step::End => Verdict::Fine,
+        Step::Refused(why) => Err(why),
+        Step::End => Ok(()),
         Step::Box {
             kind: _,
             body: _,
             next: _,
-        } => Verdict::Fine,
+        } => Ok(()),
     }
 }
 
@@ -62,10 +69,7 @@ pub fn stopped_by(t: Step) -> Verdict
 pub fn mark_kind(flag: bool, kind: u32, wanted: u32) -> bool
     ensures { result ≡ any_of (eqb kind wanted) flag }
 {
-    if kind == wanted {
-        return true;
-    }
-    flag
+    kind == wanted || flag
 }
 
 // Passes over the boxes from `from` to `end`, which are to be whole.

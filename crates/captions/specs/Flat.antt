@@ -1,57 +1,40 @@
 -- Answers as C sees them: structs of numbers. What an answer leaves free is 0.
-use Rattle.std.specs.Prelude.{ℕ, Bool, true, false, List, ltb, pos}
+use Rattle.std.specs.Prelude.{ℕ, Option, Some, None, Ok, is_some, Bool, true, false, List, ltb, pos}
 use Rattle.base.specs.Choice.{pick, both}
 use Rattle.verdict.specs.declared.Refusal.{Refusal}
-use Rattle.verdict.specs.declared.Verdict.{Verdict}
-use Rattle.verdict.specs.declared.Verdict.TheVariants.{Fine, Refused}
+use Rattle.verdict.specs.Verdict.{Verdict, Fine, Refused}
 use Rattle.verdict.specs.Judgement.{fault, bad_text, text_at}
 use Rattle.viable.specs.FirstBad.{judged_by}
 use Rattle.boxes.specs.declared.Step.{Step}
 use Rattle.boxes.specs.declared.Step.TheVariants.{Box, Refused as Stopped, End as NoBox}
-use Rattle.characters.specs.declared.Counted.{Counted}
-use Rattle.characters.specs.declared.Counted.TheVariants.{Characters, Bad}
-use Rattle.wvtt_cues.specs.declared.Held.{Held}
-use Rattle.wvtt_cues.specs.declared.Held.TheVariants.{Cue, Refused as NotWhole, End}
+use Rattle.characters.specs.Counted.{Counted, Characters, Bad}
+use Rattle.wvtt_cues.specs.Held.{Held, Cue, Refused as NotWhole, End}
 use Rattle.times.specs.Times.{back}
-use Rattle.pack.specs.declared.Packed.{Packed}
-use Rattle.pack.specs.declared.Packed.TheVariants.{Done, Refused as NotPacked}
-use Rattle.table_lasting.specs.declared.Dropped.{Dropped}
-use Rattle.table_lasting.specs.declared.Dropped.TheVariants.{Done as Kept, Refused as NotDropped}
-use Rattle.unpack.specs.declared.Unpacked.{Unpacked}
-use Rattle.unpack.specs.declared.Unpacked.TheVariants.{Done as Listed, Refused as NotListed}
-use Rattle.vtt_read.specs.declared.FileRead.{FileRead}
-use Rattle.vtt_read.specs.declared.FileRead.TheVariants.{Done as FileDone, Refused as FileRefused}
-use Rattle.vtt_write.specs.declared.FileWritten.{FileWritten}
-use Rattle.vtt_write.specs.declared.FileWritten.TheVariants.{Done as FileOut, BadConfiguration, BadList as ListOut, NoRoom}
-use Rattle.conform.specs.declared.Checked.{Checked}
-use Rattle.conform.specs.declared.Checked.TheVariants.{Passed, BadList, BadTrack}
-use Rattle.wvtt_entry.specs.declared.Entry.{Entry as WvttEntry}
-use Rattle.wvtt_entry.specs.declared.Entry.TheVariants.{Whole as WvttWhole, Refused as WvttRefused}
-use Rattle.wvtt_entry_write.specs.declared.Written.{Written}
-use Rattle.wvtt_entry_write.specs.declared.Written.TheVariants.{Done as WrittenDone, Refused as NotWritten}
+use Rattle.pack.specs.Packed.{Packed, Refused as NotPacked}
+use Rattle.table_lasting.specs.Dropped.{Dropped, Refused as NotDropped}
+use Rattle.unpack.specs.Unpacked.{Unpacked, Refused as NotListed}
+use Rattle.vtt_read.specs.FileRead.{FileRead, Refused as FileRefused}
+use Rattle.vtt_write.specs.FileWritten.{FileWritten, Done as FileOut, BadConfiguration, BadList as ListOut, NoRoom}
+use Rattle.conform.specs.Checked.{Checked, Passed, BadList, BadTrack}
+use Rattle.wvtt_entry.specs.Read.{Read as WvttEntry, Whole as WvttWhole, Refused as WvttRefused}
+use Rattle.wvtt_entry.specs.Reading.{or_nowhere}
+use Rattle.wvtt_entry_write.specs.Written.{Written, Done as WrittenDone, Refused as NotWritten}
 use Rattle.signed.specs.declared.Edges.{Edges}
 use Rattle.signed.specs.Signed.{edges_at}
 use Rattle.tx3g_read.specs.declared.Fields.{Fields}
-use Rattle.tx3g_read.specs.declared.Entry.{Entry as Tx3gEntry}
-use Rattle.tx3g_read.specs.declared.Entry.TheVariants.{Whole as Tx3gWhole, Refused as Tx3gRefused}
+use Rattle.tx3g_read.specs.Entry.{Entry as Tx3gEntry, Whole as Tx3gWhole, Refused as Tx3gRefused}
 use Rattle.tx3g_read.specs.declared.Font.{Font}
-use Rattle.tx3g_read.specs.declared.Font.TheVariants.{Named, Missing}
-use Rattle.tx3g_read.specs.declared.Content.{Content}
-use Rattle.tx3g_read.specs.declared.Content.TheVariants.{Whole as ContentWhole, BadEntry as EntryAtFault, BadSample as SampleAtFault}
+use Rattle.tx3g_read.specs.Sample.{Held as Content, BadEntry as EntryAtFault, BadSample as SampleAtFault}
 use Rattle.tx3g_runs.specs.declared.Run.{Run}
 use Rattle.tx3g_runs.specs.declared.Run.TheVariants.{Styled as StyledRun, Plain as PlainRun, End as NoRun}
-use Rattle.tx3g_style.specs.declared.Styled.{Styled}
-use Rattle.tx3g_style.specs.declared.Styled.TheVariants.{Found, BadEntry as EntryOf, BadSample as SampleOf}
-use Rattle.tx3g_box.specs.declared.Spot.{Spot}
-use Rattle.tx3g_box.specs.declared.Spot.TheVariants.{Sample, Entry, BadEntry as BoxEntry, BadSample as BoxSample}
+use Rattle.tx3g_style.specs.Styled.{Styled, Found, BadEntry as EntryOf, BadSample as SampleOf}
+use Rattle.tx3g_box.specs.Spot.{Spot, Sample, Entry, BadEntry as BoxEntry, BadSample as BoxSample}
 use Rattle.tx3g_box.specs.TextBox.{bytes_at}
 use Rattle.tx3g_modifiers.specs.declared.Modifier.{Modifier}
 use Rattle.tx3g_modifiers.specs.declared.Modifier.TheVariants.{Styles, Highlight, Colour, Karaoke, Delay, Link, TextBox, Wrap}
-use Rattle.tx3g_modifiers.specs.declared.Held.{Held as Modified}
-use Rattle.tx3g_modifiers.specs.declared.Held.TheVariants.{One, Refused as NotRead, End as NoMore}
+use Rattle.tx3g_modifiers.specs.Held.{Held as Modified, One, Refused as NotRead, End as NoMore}
 use Rattle.tx3g_stock.specs.declared.Counts.{Counts}
-use Rattle.tx3g_convert.specs.declared.Converted.{Converted}
-use Rattle.tx3g_convert.specs.declared.Converted.TheVariants.{Done as ConvertDone, BadEntry as ConvertEntry, BadTrack as ConvertTrack, NoRoom as ConvertRoom}
+use Rattle.tx3g_convert.specs.Converted.{Converted, BadEntry as ConvertEntry, BadTrack as ConvertTrack, NoRoom as ConvertRoom}
 use Rattle.captions.specs.declared.CaptionsChecked.{CaptionsChecked}
 use Rattle.captions.specs.declared.CaptionsWvttEntry.{CaptionsWvttEntry}
 use Rattle.captions.specs.declared.CaptionsWritten.{CaptionsWritten}
@@ -137,22 +120,22 @@ ms_of scale t = pick (both (ltb 0 scale) (ltb t 281474976710656)) (back scale t)
 
 -- what packing answers
 abbrev pub flat_packed : Packed → CaptionsPacked
-flat_packed (Done n t b) = record { refusal = nothing; samples = n; table_bytes = t; sample_bytes = b }
+flat_packed (Ok x) = record { refusal = nothing; samples = x.samples; table_bytes = x.table; sample_bytes = x.bytes }
 flat_packed (NotPacked r) = record { refusal = r; samples = 0; table_bytes = 0; sample_bytes = 0 }
 
 -- what unpacking answers
 abbrev pub flat_unpacked : Unpacked → CaptionsUnpacked
-flat_unpacked (Listed n p t) = record { refusal = nothing; record_bytes = n; pool_bytes = p; t = t }
+flat_unpacked (Ok x) = record { refusal = nothing; record_bytes = x.records; pool_bytes = x.pool; t = x.t }
 flat_unpacked (NotListed r) = record { refusal = r; record_bytes = 0; pool_bytes = 0; t = 0 }
 
 -- what dropping samples of duration 0 answers
 abbrev pub flat_dropped : Dropped → CaptionsDropped
-flat_dropped (Kept n t b) = record { refusal = nothing; samples = n; table_bytes = t; sample_bytes = b }
+flat_dropped (Ok x) = record { refusal = nothing; samples = x.samples; table_bytes = x.table; sample_bytes = x.bytes }
 flat_dropped (NotDropped r) = record { refusal = r; samples = 0; table_bytes = 0; sample_bytes = 0 }
 
 -- what reading a file answers
 abbrev pub flat_file : FileRead → CaptionsVttRead
-flat_file (FileDone n a b) = record { refusal = nothing; cues = n; record_bytes = a; pool_bytes = b }
+flat_file (Ok x) = record { refusal = nothing; cues = x.cues; record_bytes = x.records; pool_bytes = x.pool }
 flat_file (FileRefused r) = record { refusal = r; cues = 0; record_bytes = 0; pool_bytes = 0 }
 
 -- what writing a file answers. Who is at fault: 1 an entry, 2 a sample, 3 a list, 4 a track, 5 a configuration, 6 an output, 0 nobody
@@ -170,15 +153,15 @@ flat_checked (BadTrack r) = record { refusal = r; who = 4 }
 
 -- a `wvtt` entry: its texts where they stand
 abbrev pub flat_wvtt_entry : WvttEntry → CaptionsWvttEntry
-flat_wvtt_entry (WvttWhole i c b l) =
+flat_wvtt_entry (WvttWhole x) =
     record {
       refusal = nothing;
-      data_reference_index = i;
-      labelled = b;
-      configuration_from = c.from;
-      configuration_end = c.end;
-      label_from = l.from;
-      label_end = l.end;
+      data_reference_index = x.index;
+      labelled = is_some x.label;
+      configuration_from = x.configuration.from;
+      configuration_end = x.configuration.end;
+      label_from = (or_nowhere x.label).from;
+      label_end = (or_nowhere x.label).end;
     }
 flat_wvtt_entry (WvttRefused r) =
     record { refusal = r; data_reference_index = 0; labelled = false; configuration_from = 0; configuration_end = 0; label_from = 0; label_end = 0 }
@@ -249,9 +232,9 @@ flat_tx3g_entry (Tx3gWhole f) = flat_fields f
 flat_tx3g_entry (Tx3gRefused r) = no_fields r
 
 -- a font, if its bytes are there
-abbrev pub flat_font : Font → CaptionsFont
-flat_font (Named i f e) = record { found = true; id = i; name_from = f; name_end = e }
-flat_font Missing = record { found = false; id = 0; name_from = 0; name_end = 0 }
+abbrev pub flat_font : Option Font → CaptionsFont
+flat_font (Some x) = record { found = true; id = x.id; name_from = x.from; name_end = x.end }
+flat_font None = record { found = false; id = 0; name_from = 0; name_end = 0 }
 
 -- no sample, why, and who is at fault
 abbrev pub no_content : Refusal → ℕ → CaptionsTx3gSample
@@ -260,18 +243,18 @@ no_content r who =
 
 -- what a `tx3g` sample holds; its modifiers begin where its text ends
 abbrev pub flat_content : Content → CaptionsTx3gSample
-flat_content (ContentWhole n t y b) =
+flat_content (Ok x) =
     record {
       refusal = nothing;
       who = 0;
-      characters = n;
-      utf16 = t.utf16;
-      text_from = t.from;
-      text_end = t.end;
-      modifiers = t.end;
-      styles = y.count;
-      styles_from = y.from;
-      retired_blinking = b;
+      characters = x.characters;
+      utf16 = x.text.utf16;
+      text_from = x.text.from;
+      text_end = x.text.end;
+      modifiers = x.text.end;
+      styles = x.styles.count;
+      styles_from = x.styles.from;
+      retired_blinking = x.retired_blinking;
     }
 flat_content (EntryAtFault r) = no_content r 1
 flat_content (SampleAtFault r) = no_content r 2
@@ -391,7 +374,7 @@ done_conversion n r p t c =
     }
 
 abbrev pub flat_converted : Converted → CaptionsTx3gConverted
-flat_converted (ConvertDone n r p t c) = done_conversion n r p t c
+flat_converted (Ok x) = done_conversion x.cues x.records x.pool x.t x.dropped
 flat_converted (ConvertEntry r) = no_conversion 1 r
 flat_converted (ConvertTrack r) = no_conversion 4 r
 flat_converted (ConvertRoom r) = no_conversion 6 r

@@ -38,38 +38,35 @@ ghost use Rattle.tx3g_modifiers.specs.Modifiers.{next_modifier};
 ghost use Rattle.tx3g_convert.specs.Convert.{stock_cues, convert_room, convert_of, out_of as convert_out};
 ghost use Rattle.captions.specs.Flat.{flat_verdict, flat_text, flat_count, flat_step, no_cue, flat_held, ms_of, flat_packed, flat_unpacked, flat_dropped, flat_file, flat_file_written, flat_checked, flat_wvtt_entry, flat_written, flat_fields, no_fields, flat_tx3g_entry, flat_font, no_content, flat_content, plain_run, flat_run, box_of, no_box, flat_spot, no_style, flat_styled, modifier_of, flat_modifier, no_modifier, flat_modified, no_conversion, done_conversion, flat_converted};
 
-use boxes::Step;
-use characters::Counted;
-use conform::Checked;
-use pack::Packed;
+use boxes::{Part, Step};
+use conform::Fault as CheckFault;
 use settings_flat::{CaptionsSettings, CaptionsSettingsRead};
 use signed::{Edges, read_edges};
-use table_lasting::Dropped;
-use tx3g_box::Spot;
-use tx3g_convert::Converted;
-use tx3g_modifiers::{Held as Modified, Modifier, Part};
-use tx3g_read::{Content, Entry as Tx3gEntry, Fields, Font};
+use table::Sizes;
+use tx3g_convert::{CueList as StockList, Fault as StockFault};
+use tx3g_modifiers::Modifier;
+use tx3g_read::{Content, Fields, Font};
 use tx3g_runs::Run;
+use tx3g_sample::Fault;
 use tx3g_stock::Counts;
-use tx3g_style::Styled;
-use unpack::Unpacked;
-use verdict::{Refusal, Verdict, bad_text_at, fault_at, text_at};
+use tx3g_style::Style;
+use unpack::CueList;
+use verdict::{Refusal, Verdict, bad_text_at, text_at};
 use viable::Judged;
-use vtt_read::FileRead;
-use vtt_write::FileWritten;
-use wvtt_cues::Held;
+use vtt_read::CueList as FileList;
+use vtt_write::Fault as FileFault;
+use wvtt_cues::Parts;
 use wvtt_entry::Entry as WvttEntry;
-use wvtt_entry_write::Written;
 
 #[repr(C)]
-#[derive(Clone, Copy)]
+#[derive(Clone, Copy, Default)]
 pub struct CaptionsCount {
     pub refusal: Refusal,
     pub characters: usize,
 }
 
 #[repr(C)]
-#[derive(Clone, Copy)]
+#[derive(Clone, Copy, Default)]
 pub struct CaptionsStep {
     pub refusal: Refusal,
     pub found: bool,
@@ -79,7 +76,7 @@ pub struct CaptionsStep {
 }
 
 #[repr(C)]
-#[derive(Clone, Copy)]
+#[derive(Clone, Copy, Default)]
 pub struct CaptionsCue {
     pub refusal: Refusal,
     pub found: bool,
@@ -95,7 +92,7 @@ pub struct CaptionsCue {
 }
 
 #[repr(C)]
-#[derive(Clone, Copy)]
+#[derive(Clone, Copy, Default)]
 pub struct CaptionsPacked {
     pub refusal: Refusal,
     pub samples: usize,
@@ -104,7 +101,7 @@ pub struct CaptionsPacked {
 }
 
 #[repr(C)]
-#[derive(Clone, Copy)]
+#[derive(Clone, Copy, Default)]
 pub struct CaptionsUnpacked {
     pub refusal: Refusal,
     pub record_bytes: usize,
@@ -113,7 +110,7 @@ pub struct CaptionsUnpacked {
 }
 
 #[repr(C)]
-#[derive(Clone, Copy)]
+#[derive(Clone, Copy, Default)]
 pub struct CaptionsDropped {
     pub refusal: Refusal,
     pub samples: usize,
@@ -122,7 +119,7 @@ pub struct CaptionsDropped {
 }
 
 #[repr(C)]
-#[derive(Clone, Copy)]
+#[derive(Clone, Copy, Default)]
 pub struct CaptionsVttRead {
     pub refusal: Refusal,
     pub cues: usize,
@@ -131,7 +128,7 @@ pub struct CaptionsVttRead {
 }
 
 #[repr(C)]
-#[derive(Clone, Copy)]
+#[derive(Clone, Copy, Default)]
 pub struct CaptionsVttWritten {
     pub refusal: Refusal,
     pub who: u32,
@@ -139,14 +136,14 @@ pub struct CaptionsVttWritten {
 }
 
 #[repr(C)]
-#[derive(Clone, Copy)]
+#[derive(Clone, Copy, Default)]
 pub struct CaptionsChecked {
     pub refusal: Refusal,
     pub who: u32,
 }
 
 #[repr(C)]
-#[derive(Clone, Copy)]
+#[derive(Clone, Copy, Default)]
 pub struct CaptionsWvttEntry {
     pub refusal: Refusal,
     pub data_reference_index: u32,
@@ -158,14 +155,14 @@ pub struct CaptionsWvttEntry {
 }
 
 #[repr(C)]
-#[derive(Clone, Copy)]
+#[derive(Clone, Copy, Default)]
 pub struct CaptionsWritten {
     pub refusal: Refusal,
     pub bytes: usize,
 }
 
 #[repr(C)]
-#[derive(Clone, Copy)]
+#[derive(Clone, Copy, Default)]
 pub struct CaptionsTx3gEntry {
     pub refusal: Refusal,
     pub data_reference_index: u32,
@@ -192,7 +189,7 @@ pub struct CaptionsTx3gEntry {
 }
 
 #[repr(C)]
-#[derive(Clone, Copy)]
+#[derive(Clone, Copy, Default)]
 pub struct CaptionsFont {
     pub found: bool,
     pub id: u32,
@@ -201,7 +198,7 @@ pub struct CaptionsFont {
 }
 
 #[repr(C)]
-#[derive(Clone, Copy)]
+#[derive(Clone, Copy, Default)]
 pub struct CaptionsTx3gSample {
     pub refusal: Refusal,
     pub who: u32,
@@ -216,7 +213,7 @@ pub struct CaptionsTx3gSample {
 }
 
 #[repr(C)]
-#[derive(Clone, Copy)]
+#[derive(Clone, Copy, Default)]
 pub struct CaptionsStyle {
     pub refusal: Refusal,
     pub who: u32,
@@ -232,7 +229,7 @@ pub struct CaptionsStyle {
 }
 
 #[repr(C)]
-#[derive(Clone, Copy)]
+#[derive(Clone, Copy, Default)]
 pub struct CaptionsTx3gConverted {
     pub refusal: Refusal,
     pub who: u32,
@@ -251,7 +248,7 @@ pub struct CaptionsTx3gConverted {
 }
 
 #[repr(C)]
-#[derive(Clone, Copy)]
+#[derive(Clone, Copy, Default)]
 pub struct CaptionsRun {
     pub found: bool,
     pub styled: bool,
@@ -269,7 +266,7 @@ pub struct CaptionsRun {
 }
 
 #[repr(C)]
-#[derive(Clone, Copy)]
+#[derive(Clone, Copy, Default)]
 pub struct CaptionsTextBox {
     pub refusal: Refusal,
     pub who: u32,
@@ -283,7 +280,7 @@ pub struct CaptionsTextBox {
 
 // A modifier by the type of its box. What its numbers are, and what stands from `from` on, is said at `captions_tx3g_next_modifier`.
 #[repr(C)]
-#[derive(Clone, Copy)]
+#[derive(Clone, Copy, Default)]
 pub struct CaptionsModifier {
     pub refusal: Refusal,
     pub found: bool,
@@ -299,13 +296,17 @@ pub struct CaptionsModifier {
     pub next: usize,
 }
 
+// No bytes.
+const NOWHERE: Part = Part { from: 0, end: 0 };
+
 // The refusal, or number 0 where nothing is wrong.
+#[tactic(auto, unfolding(verdict::specs::Judgement::fault))]
 fn flat_verdict(v: Verdict) -> Refusal
     ensures { result ≡ flat_verdict v }
 {
     match v {
-        Verdict::Fine => fault_at(0, 0),
-        Verdict::Refused(why) => why,
+        Ok(()) => Refusal::default(),
+        Err(why) => why,
     }
 }
 
@@ -316,398 +317,334 @@ fn flat_text(j: Judged) -> Refusal
     flat_verdict(text_at(0, j))
 }
 
-fn flat_count(n: Counted) -> CaptionsCount
-    ensures { result ≡ flat_count n }
-{
-    match n {
-        Counted::Characters(characters) => CaptionsCount {
-            refusal: fault_at(0, 0),
-            characters,
-        },
-        Counted::Bad(offset) => CaptionsCount {
-            refusal: bad_text_at(0, offset),
-            characters: 0,
-        },
+impl From<Result<usize, usize>> for CaptionsCount {
+    ghost from_gives = { λ n r. r ≡ flat_count n };
+
+    #[tactic(auto, unfolding(verdict::specs::Judgement::fault))]
+    fn from(n: Result<usize, usize>) -> Self {
+        match n {
+            Ok(characters) => Self {
+                characters,
+                ..Self::default()
+            },
+            Err(offset) => Self {
+                refusal: bad_text_at(0, offset),
+                ..Self::default()
+            },
+        }
     }
 }
 
-fn flat_step(t: Step) -> CaptionsStep
-    ensures { result ≡ flat_step t }
-{
-    match t {
-        Step::Box { kind, body, next } => CaptionsStep {
-            refusal: fault_at(0, 0),
-            found: true,
-            kind,
-            body,
-            next,
-        },
-        Step::Refused(why) => CaptionsStep {
-            refusal: why,
-            found: false,
-            kind: 0,
-            body: 0,
-            next: 0,
-        },
-        Step::End => CaptionsStep {
-            refusal: fault_at(0, 0),
-            found: false,
-            kind: 0,
-            body: 0,
-            next: 0,
-        },
+impl From<Step> for CaptionsStep {
+    ghost from_gives = { λ t r. r ≡ flat_step t };
+
+    #[tactic(auto, unfolding(verdict::specs::Judgement::fault))]
+    fn from(t: Step) -> Self {
+        match t {
+            Step::Box { kind, body, next } => Self {
+                found: true,
+                kind,
+                body,
+                next,
+                ..Self::default()
+            },
+            Step::Refused(refusal) => Self {
+                refusal,
+                ..Self::default()
+            },
+            Step::End => Self::default(),
+        }
     }
 }
 
-fn no_cue(refusal: Refusal) -> CaptionsCue
-    ensures { result ≡ no_cue refusal }
-{
-    CaptionsCue {
-        refusal,
-        found: false,
-        named: false,
-        id: 0,
-        identifier_from: 0,
-        identifier_end: 0,
-        settings_from: 0,
-        settings_end: 0,
-        payload_from: 0,
-        payload_end: 0,
-        next: 0,
+impl From<Result<Option<(Parts, usize)>, Refusal>> for CaptionsCue {
+    ghost from_gives = { λ h r. r ≡ flat_held h };
+
+    #[tactic(auto, unfolding(verdict::specs::Judgement::fault))]
+    fn from(h: Result<Option<(Parts, usize)>, Refusal>) -> Self {
+        match h {
+            Ok(Some((parts, next))) => Self {
+                found: true,
+                named: parts.named,
+                id: parts.id,
+                identifier_from: parts.identifier.from,
+                identifier_end: parts.identifier.end,
+                settings_from: parts.settings.from,
+                settings_end: parts.settings.end,
+                payload_from: parts.payload.from,
+                payload_end: parts.payload.end,
+                next,
+                ..Self::default()
+            },
+            Ok(None) => Self::default(),
+            Err(refusal) => Self {
+                refusal,
+                ..Self::default()
+            },
+        }
     }
 }
 
-fn flat_held(h: Held) -> CaptionsCue
-    ensures { result ≡ flat_held h }
-{
-    match h {
-        Held::Cue { parts, next } => CaptionsCue {
-            refusal: fault_at(0, 0),
-            found: true,
-            named: parts.named,
-            id: parts.id,
-            identifier_from: parts.identifier.from,
-            identifier_end: parts.identifier.end,
-            settings_from: parts.settings.from,
-            settings_end: parts.settings.end,
-            payload_from: parts.payload.from,
-            payload_end: parts.payload.end,
-            next,
-        },
-        Held::Refused(why) => no_cue(why),
-        Held::End => no_cue(fault_at(0, 0)),
+impl From<Result<Sizes, Refusal>> for CaptionsPacked {
+    ghost from_gives = { λ p r. r ≡ flat_packed p };
+
+    #[tactic(auto, unfolding(verdict::specs::Judgement::fault))]
+    fn from(p: Result<Sizes, Refusal>) -> Self {
+        match p {
+            Ok(packed) => Self {
+                samples: packed.samples,
+                table_bytes: packed.table,
+                sample_bytes: packed.bytes,
+                ..Self::default()
+            },
+            Err(refusal) => Self {
+                refusal,
+                ..Self::default()
+            },
+        }
     }
 }
 
-fn flat_packed(p: Packed) -> CaptionsPacked
-    ensures { result ≡ flat_packed p }
-{
-    match p {
-        Packed::Done {
-            samples,
-            table,
-            bytes,
-        } => CaptionsPacked {
-            refusal: fault_at(0, 0),
-            samples,
-            table_bytes: table,
-            sample_bytes: bytes,
-        },
-        Packed::Refused(why) => CaptionsPacked {
-            refusal: why,
-            samples: 0,
-            table_bytes: 0,
-            sample_bytes: 0,
-        },
+impl From<Result<CueList, Refusal>> for CaptionsUnpacked {
+    ghost from_gives = { λ u r. r ≡ flat_unpacked u };
+
+    #[tactic(auto, unfolding(verdict::specs::Judgement::fault))]
+    fn from(u: Result<CueList, Refusal>) -> Self {
+        match u {
+            Ok(list) => Self {
+                record_bytes: list.records,
+                pool_bytes: list.pool,
+                t: list.t,
+                ..Self::default()
+            },
+            Err(refusal) => Self {
+                refusal,
+                ..Self::default()
+            },
+        }
     }
 }
 
-fn flat_unpacked(u: Unpacked) -> CaptionsUnpacked
-    ensures { result ≡ flat_unpacked u }
-{
-    match u {
-        Unpacked::Done { records, pool, t } => CaptionsUnpacked {
-            refusal: fault_at(0, 0),
-            record_bytes: records,
-            pool_bytes: pool,
-            t,
-        },
-        Unpacked::Refused(why) => CaptionsUnpacked {
-            refusal: why,
-            record_bytes: 0,
-            pool_bytes: 0,
-            t: 0,
-        },
+impl From<Result<Sizes, Refusal>> for CaptionsDropped {
+    ghost from_gives = { λ d r. r ≡ flat_dropped d };
+
+    #[tactic(auto, unfolding(verdict::specs::Judgement::fault))]
+    fn from(d: Result<Sizes, Refusal>) -> Self {
+        match d {
+            Ok(left) => Self {
+                samples: left.samples,
+                table_bytes: left.table,
+                sample_bytes: left.bytes,
+                ..Self::default()
+            },
+            Err(refusal) => Self {
+                refusal,
+                ..Self::default()
+            },
+        }
     }
 }
 
-fn flat_dropped(d: Dropped) -> CaptionsDropped
-    ensures { result ≡ flat_dropped d }
-{
-    match d {
-        Dropped::Done {
-            samples,
-            table: rows,
-            bytes,
-        } => CaptionsDropped {
-            refusal: fault_at(0, 0),
-            samples,
-            table_bytes: rows,
-            sample_bytes: bytes,
-        },
-        Dropped::Refused(why) => CaptionsDropped {
-            refusal: why,
-            samples: 0,
-            table_bytes: 0,
-            sample_bytes: 0,
-        },
-    }
-}
+impl From<Result<FileList, Refusal>> for CaptionsVttRead {
+    ghost from_gives = { λ f r. r ≡ flat_file f };
 
-fn flat_file(f: FileRead) -> CaptionsVttRead
-    ensures { result ≡ flat_file f }
-{
-    match f {
-        FileRead::Done {
-            cues,
-            records,
-            pool,
-        } => CaptionsVttRead {
-            refusal: fault_at(0, 0),
-            cues,
-            record_bytes: records,
-            pool_bytes: pool,
-        },
-        FileRead::Refused(why) => CaptionsVttRead {
-            refusal: why,
-            cues: 0,
-            record_bytes: 0,
-            pool_bytes: 0,
-        },
+    #[tactic(auto, unfolding(verdict::specs::Judgement::fault))]
+    fn from(f: Result<FileList, Refusal>) -> Self {
+        match f {
+            Ok(list) => Self {
+                cues: list.cues,
+                record_bytes: list.records,
+                pool_bytes: list.pool,
+                ..Self::default()
+            },
+            Err(refusal) => Self {
+                refusal,
+                ..Self::default()
+            },
+        }
     }
 }
 
 // Who is at fault: 1 an entry, 2 a sample, 3 a list, 4 a track, 5 a configuration, 6 an output, 0 nobody.
-fn flat_file_written(w: FileWritten) -> CaptionsVttWritten
-    ensures { result ≡ flat_file_written w }
-{
-    match w {
-        FileWritten::Done(bytes) => CaptionsVttWritten {
-            refusal: fault_at(0, 0),
-            who: 0,
-            bytes,
-        },
-        FileWritten::BadConfiguration(why) => CaptionsVttWritten {
-            refusal: why,
-            who: 5,
-            bytes: 0,
-        },
-        FileWritten::BadList(why) => CaptionsVttWritten {
-            refusal: why,
-            who: 3,
-            bytes: 0,
-        },
-        FileWritten::NoRoom(why) => CaptionsVttWritten {
-            refusal: why,
-            who: 6,
-            bytes: 0,
-        },
+impl From<Result<usize, FileFault>> for CaptionsVttWritten {
+    ghost from_gives = { λ w r. r ≡ flat_file_written w };
+
+    #[tactic(auto, unfolding(verdict::specs::Judgement::fault))]
+    fn from(w: Result<usize, FileFault>) -> Self {
+        let (refusal, who) = match w {
+            Ok(bytes) => {
+                return Self {
+                    bytes,
+                    ..Self::default()
+                };
+            }
+            Err(FileFault::Configuration(why)) => (why, 5),
+            Err(FileFault::List(why)) => (why, 3),
+            Err(FileFault::Room(why)) => (why, 6),
+        };
+        Self {
+            refusal,
+            who,
+            ..Self::default()
+        }
     }
 }
 
-fn flat_checked(c: Checked) -> CaptionsChecked
-    ensures { result ≡ flat_checked c }
-{
-    match c {
-        Checked::Passed => CaptionsChecked {
-            refusal: fault_at(0, 0),
-            who: 0,
-        },
-        Checked::BadList(why) => CaptionsChecked {
-            refusal: why,
-            who: 3,
-        },
-        Checked::BadTrack(why) => CaptionsChecked {
-            refusal: why,
-            who: 4,
-        },
+impl From<Result<(), CheckFault>> for CaptionsChecked {
+    ghost from_gives = { λ c r. r ≡ flat_checked c };
+
+    #[tactic(auto, unfolding(verdict::specs::Judgement::fault))]
+    fn from(c: Result<(), CheckFault>) -> Self {
+        match c {
+            Ok(()) => Self::default(),
+            Err(CheckFault::List(refusal)) => Self { refusal, who: 3 },
+            Err(CheckFault::Track(refusal)) => Self { refusal, who: 4 },
+        }
     }
 }
 
-fn flat_wvtt_entry(e: WvttEntry) -> CaptionsWvttEntry
-    ensures { result ≡ flat_wvtt_entry e }
-{
-    match e {
-        WvttEntry::Whole {
-            index,
-            configuration,
-            labelled,
-            label,
-        } => CaptionsWvttEntry {
-            refusal: fault_at(0, 0),
-            data_reference_index: index,
-            labelled,
-            configuration_from: configuration.from,
-            configuration_end: configuration.end,
-            label_from: label.from,
-            label_end: label.end,
-        },
-        WvttEntry::Refused(why) => CaptionsWvttEntry {
-            refusal: why,
-            data_reference_index: 0,
-            labelled: false,
-            configuration_from: 0,
-            configuration_end: 0,
-            label_from: 0,
-            label_end: 0,
-        },
+impl From<Result<WvttEntry, Refusal>> for CaptionsWvttEntry {
+    ghost from_gives = { λ e r. r ≡ flat_wvtt_entry e };
+
+    #[tactic(auto, unfolding(verdict::specs::Judgement::fault))]
+    fn from(e: Result<WvttEntry, Refusal>) -> Self {
+        match e {
+            Ok(entry) => {
+                let label = entry.label.unwrap_or(NOWHERE);
+                Self {
+                    data_reference_index: entry.index,
+                    labelled: entry.label.is_some(),
+                    configuration_from: entry.configuration.from,
+                    configuration_end: entry.configuration.end,
+                    label_from: label.from,
+                    label_end: label.end,
+                    ..Self::default()
+                }
+            }
+            Err(refusal) => Self {
+                refusal,
+                ..Self::default()
+            },
+        }
     }
 }
 
-fn flat_written(w: Written) -> CaptionsWritten
-    ensures { result ≡ flat_written w }
-{
-    match w {
-        Written::Done(bytes) => CaptionsWritten {
-            refusal: fault_at(0, 0),
-            bytes,
-        },
-        Written::Refused(why) => CaptionsWritten {
-            refusal: why,
-            bytes: 0,
-        },
+impl From<Result<usize, Refusal>> for CaptionsWritten {
+    ghost from_gives = { λ w r. r ≡ flat_written w };
+
+    #[tactic(auto, unfolding(verdict::specs::Judgement::fault))]
+    fn from(w: Result<usize, Refusal>) -> Self {
+        match w {
+            Ok(bytes) => Self {
+                bytes,
+                ..Self::default()
+            },
+            Err(refusal) => Self {
+                refusal,
+                ..Self::default()
+            },
+        }
     }
 }
 
-fn flat_fields(f: Fields) -> CaptionsTx3gEntry
-    ensures { result ≡ flat_fields f }
-{
-    CaptionsTx3gEntry {
-        refusal: fault_at(0, 0),
-        data_reference_index: f.index,
-        display_flags: f.flags,
-        horizontal: f.horizontal,
-        vertical: f.vertical,
-        background_red: f.background.red,
-        background_green: f.background.green,
-        background_blue: f.background.blue,
-        background_alpha: f.background.alpha,
-        top: f.top,
-        left: f.left,
-        bottom: f.bottom,
-        right: f.right,
-        font: f.style.font,
-        face: f.style.face,
-        size: f.style.size,
-        red: f.style.red,
-        green: f.style.green,
-        blue: f.style.blue,
-        alpha: f.style.alpha,
-        fonts: f.fonts as usize,
-        fonts_from: f.from,
+impl From<Fields> for CaptionsTx3gEntry {
+    ghost from_gives = { λ f r. r ≡ flat_fields f };
+
+    #[tactic(auto, unfolding(verdict::specs::Judgement::fault))]
+    fn from(f: Fields) -> Self {
+        Self {
+            data_reference_index: f.index,
+            display_flags: f.flags,
+            horizontal: f.horizontal,
+            vertical: f.vertical,
+            background_red: f.background.red,
+            background_green: f.background.green,
+            background_blue: f.background.blue,
+            background_alpha: f.background.alpha,
+            top: f.top,
+            left: f.left,
+            bottom: f.bottom,
+            right: f.right,
+            font: f.style.font,
+            face: f.style.face,
+            size: f.style.size,
+            red: f.style.red,
+            green: f.style.green,
+            blue: f.style.blue,
+            alpha: f.style.alpha,
+            fonts: f.fonts as usize,
+            fonts_from: f.from,
+            ..Self::default()
+        }
     }
 }
 
-fn no_fields(refusal: Refusal) -> CaptionsTx3gEntry
-    ensures { result ≡ no_fields refusal }
-{
-    CaptionsTx3gEntry {
-        refusal,
-        data_reference_index: 0,
-        display_flags: 0,
-        horizontal: 0,
-        vertical: 0,
-        background_red: 0,
-        background_green: 0,
-        background_blue: 0,
-        background_alpha: 0,
-        top: 0,
-        left: 0,
-        bottom: 0,
-        right: 0,
-        font: 0,
-        face: 0,
-        size: 0,
-        red: 0,
-        green: 0,
-        blue: 0,
-        alpha: 0,
-        fonts: 0,
-        fonts_from: 0,
+impl From<Result<Fields, Refusal>> for CaptionsTx3gEntry {
+    ghost from_gives = { λ e r. r ≡ flat_tx3g_entry e };
+
+    #[tactic(auto, unfolding(verdict::specs::Judgement::fault))]
+    fn from(e: Result<Fields, Refusal>) -> Self {
+        match e {
+            Ok(fields) => fields.into(),
+            Err(refusal) => Self {
+                refusal,
+                ..Self::default()
+            },
+        }
     }
 }
 
-fn flat_tx3g_entry(e: Tx3gEntry) -> CaptionsTx3gEntry
-    ensures { result ≡ flat_tx3g_entry e }
-{
-    match e {
-        Tx3gEntry::Whole(fields) => flat_fields(fields),
-        Tx3gEntry::Refused(why) => no_fields(why),
+impl From<Option<Font>> for CaptionsFont {
+    ghost from_gives = { λ f r. r ≡ flat_font f };
+
+    fn from(f: Option<Font>) -> Self {
+        match f {
+            Some(font) => Self {
+                found: true,
+                id: font.id,
+                name_from: font.from,
+                name_end: font.end,
+            },
+            None => Self::default(),
+        }
     }
 }
 
-fn flat_font(f: Font) -> CaptionsFont
-    ensures { result ≡ flat_font f }
-{
-    match f {
-        Font::Named { id, from, end } => CaptionsFont {
-            found: true,
-            id,
-            name_from: from,
-            name_end: end,
-        },
-        Font::Missing => CaptionsFont {
-            found: false,
-            id: 0,
-            name_from: 0,
-            name_end: 0,
-        },
-    }
-}
-
+// No sample: why, and whose fault it is.
 fn no_content(refusal: Refusal, who: u32) -> CaptionsTx3gSample
     ensures { result ≡ no_content refusal who }
 {
     CaptionsTx3gSample {
         refusal,
         who,
-        characters: 0,
-        utf16: false,
-        text_from: 0,
-        text_end: 0,
-        modifiers: 0,
-        styles: 0,
-        styles_from: 0,
-        retired_blinking: false,
+        ..CaptionsTx3gSample::default()
     }
 }
 
-fn flat_content(c: Content) -> CaptionsTx3gSample
-    ensures { result ≡ flat_content c }
-{
-    match c {
-        Content::Whole {
-            characters,
-            text,
-            styles,
-            retired_blinking,
-        } => CaptionsTx3gSample {
-            refusal: fault_at(0, 0),
-            who: 0,
-            characters,
-            utf16: text.utf16,
-            text_from: text.from,
-            text_end: text.end,
-            modifiers: text.end,
-            styles: styles.count as usize,
-            styles_from: styles.from,
-            retired_blinking,
-        },
-        Content::BadEntry(why) => no_content(why, 1),
-        Content::BadSample(why) => no_content(why, 2),
+impl From<Result<Content, Fault>> for CaptionsTx3gSample {
+    ghost from_gives = { λ c r. r ≡ flat_content c };
+
+    #[tactic(auto, unfolding(verdict::specs::Judgement::fault))]
+    fn from(c: Result<Content, Fault>) -> Self {
+        match c {
+            Ok(content) => Self {
+                characters: content.characters,
+                utf16: content.text.utf16,
+                text_from: content.text.from,
+                text_end: content.text.end,
+                modifiers: content.text.end,
+                styles: content.styles.count as usize,
+                styles_from: content.styles.from,
+                retired_blinking: content.retired_blinking,
+                ..Self::default()
+            },
+            Err(Fault::Entry(why)) => no_content(why, 1),
+            Err(Fault::Sample(why)) => no_content(why, 2),
+        }
     }
 }
 
+// A run, which begins at character k.
 fn flat_run(r: Run, k: usize) -> CaptionsRun
     ensures { result ≡ flat_run r k }
 {
@@ -732,44 +669,30 @@ fn flat_run(r: Run, k: usize) -> CaptionsRun
             styles: left,
             styles_from: next,
         },
-        Run::Plain { end, left, next } => plain_run(true, k, end, left, next),
-        Run::End => plain_run(false, 0, 0, 0, 0),
+        Run::Plain { end, left, next } => CaptionsRun {
+            found: true,
+            from: k,
+            end,
+            styles: left,
+            styles_from: next,
+            ..CaptionsRun::default()
+        },
+        Run::End => CaptionsRun::default(),
     }
 }
 
-// A run of the default style; or none.
-fn plain_run(found: bool, from: usize, end: usize, left: usize, next: usize) -> CaptionsRun
-    ensures { result ≡ plain_run found from end left next }
-{
-    CaptionsRun {
-        found,
-        styled: false,
-        from,
-        end,
-        font: 0,
-        face: 0,
-        size: 0,
-        red: 0,
-        green: 0,
-        blue: 0,
-        alpha: 0,
-        styles: left,
-        styles_from: next,
-    }
-}
-
+#[tactic(auto, unfolding(verdict::specs::Judgement::fault))]
 fn box_of(in_sample: bool, from: usize, edges: Edges) -> CaptionsTextBox
     ensures { result ≡ box_of in_sample from edges }
 {
     CaptionsTextBox {
-        refusal: fault_at(0, 0),
-        who: 0,
         in_sample,
         from,
         top: edges.top,
         left: edges.left,
         bottom: edges.bottom,
         right: edges.right,
+        ..CaptionsTextBox::default()
     }
 }
 
@@ -779,12 +702,7 @@ fn no_box(refusal: Refusal, who: u32) -> CaptionsTextBox
     CaptionsTextBox {
         refusal,
         who,
-        in_sample: false,
-        from: 0,
-        top: 0,
-        left: 0,
-        bottom: 0,
-        right: 0,
+        ..CaptionsTextBox::default()
     }
 }
 
@@ -794,41 +712,36 @@ fn no_style(refusal: Refusal, who: u32) -> CaptionsStyle
     CaptionsStyle {
         refusal,
         who,
-        start: 0,
-        end: 0,
-        font: 0,
-        face: 0,
-        size: 0,
-        red: 0,
-        green: 0,
-        blue: 0,
-        alpha: 0,
+        ..CaptionsStyle::default()
     }
 }
 
-fn flat_styled(s: Styled) -> CaptionsStyle
-    ensures { result ≡ flat_styled s }
-{
-    match s {
-        Styled::Found(style) => CaptionsStyle {
-            refusal: fault_at(0, 0),
-            who: 0,
-            start: style.start,
-            end: style.end,
-            font: style.font,
-            face: style.face,
-            size: style.size,
-            red: style.red,
-            green: style.green,
-            blue: style.blue,
-            alpha: style.alpha,
-        },
-        Styled::BadEntry(why) => no_style(why, 1),
-        Styled::BadSample(why) => no_style(why, 2),
+impl From<Result<Style, Fault>> for CaptionsStyle {
+    ghost from_gives = { λ s r. r ≡ flat_styled s };
+
+    #[tactic(auto, unfolding(verdict::specs::Judgement::fault))]
+    fn from(s: Result<Style, Fault>) -> Self {
+        match s {
+            Ok(style) => Self {
+                start: style.start,
+                end: style.end,
+                font: style.font,
+                face: style.face,
+                size: style.size,
+                red: style.red,
+                green: style.green,
+                blue: style.blue,
+                alpha: style.alpha,
+                ..Self::default()
+            },
+            Err(Fault::Entry(why)) => no_style(why, 1),
+            Err(Fault::Sample(why)) => no_style(why, 2),
+        }
     }
 }
 
 // A modifier whose box is of this kind, with its four numbers and a part.
+#[tactic(auto, unfolding(verdict::specs::Judgement::fault))]
 fn modifier_of(
     kind: u32,
     first: u32,
@@ -842,7 +755,6 @@ fn modifier_of(
     ensures { result ≡ modifier_of kind first second third fourth from end 0 0 next }
 {
     CaptionsModifier {
-        refusal: fault_at(0, 0),
         found: true,
         kind,
         first,
@@ -851,29 +763,27 @@ fn modifier_of(
         fourth,
         from,
         end,
-        alternative_from: 0,
-        alternative_end: 0,
         next,
+        ..CaptionsModifier::default()
     }
 }
 
 // A link, with its range, its URL and its alternative text.
+#[tactic(auto, unfolding(verdict::specs::Judgement::fault))]
 fn flat_link(start: u32, end: u32, url: Part, alternative: Part, next: usize) -> CaptionsModifier
     ensures { result ≡ modifier_of 0x68726566 start end 0 0 url.from url.end alternative.from alternative.end next }
 {
     CaptionsModifier {
-        refusal: fault_at(0, 0),
         found: true,
         kind: 0x68726566,
         first: start,
         second: end,
-        third: 0,
-        fourth: 0,
         from: url.from,
         end: url.end,
         alternative_from: alternative.from,
         alternative_end: alternative.end,
         next,
+        ..CaptionsModifier::default()
     }
 }
 
@@ -904,32 +814,19 @@ fn flat_modifier(m: Modifier, next: usize) -> CaptionsModifier
     }
 }
 
-fn no_modifier(refusal: Refusal) -> CaptionsModifier
-    ensures { result ≡ no_modifier refusal }
-{
-    CaptionsModifier {
-        refusal,
-        found: false,
-        kind: 0,
-        first: 0,
-        second: 0,
-        third: 0,
-        fourth: 0,
-        from: 0,
-        end: 0,
-        alternative_from: 0,
-        alternative_end: 0,
-        next: 0,
-    }
-}
+impl From<Result<Option<(Modifier, usize)>, Refusal>> for CaptionsModifier {
+    ghost from_gives = { λ h r. r ≡ flat_modified h };
 
-fn flat_modified(h: Modified) -> CaptionsModifier
-    ensures { result ≡ flat_modified h }
-{
-    match h {
-        Modified::One { modifier, next } => flat_modifier(modifier, next),
-        Modified::Refused(why) => no_modifier(why),
-        Modified::End => no_modifier(fault_at(0, 0)),
+    #[tactic(auto, unfolding(verdict::specs::Judgement::fault))]
+    fn from(h: Result<Option<(Modifier, usize)>, Refusal>) -> Self {
+        match h {
+            Ok(Some((modifier, next))) => flat_modifier(modifier, next),
+            Ok(None) => Self::default(),
+            Err(refusal) => Self {
+                refusal,
+                ..Self::default()
+            },
+        }
     }
 }
 
@@ -940,63 +837,35 @@ fn no_conversion(who: u32, why: Refusal) -> CaptionsTx3gConverted
     CaptionsTx3gConverted {
         refusal: why,
         who,
-        cues: 0,
-        record_bytes: 0,
-        pool_bytes: 0,
-        t: 0,
-        hlit: 0,
-        retired_blinking: 0,
-        hclr: 0,
-        krok: 0,
-        dlay: 0,
-        href: 0,
-        tbox: 0,
-        twrp: 0,
+        ..CaptionsTx3gConverted::default()
     }
 }
 
-// A conversion that is done, with the boxes that were dropped.
-fn done_conversion(
-    cues: usize,
-    record_bytes: usize,
-    pool_bytes: usize,
-    t: u32,
-    dropped: Counts,
-) -> CaptionsTx3gConverted
-    ensures { result ≡ done_conversion cues record_bytes pool_bytes t dropped }
-{
-    CaptionsTx3gConverted {
-        refusal: fault_at(0, 0),
-        who: 0,
-        cues,
-        record_bytes,
-        pool_bytes,
-        t,
-        hlit: dropped.hlit,
-        retired_blinking: dropped.retired_blinking,
-        hclr: dropped.hclr,
-        krok: dropped.krok,
-        dlay: dropped.dlay,
-        href: dropped.href,
-        tbox: dropped.tbox,
-        twrp: dropped.twrp,
-    }
-}
+impl From<Result<StockList, StockFault>> for CaptionsTx3gConverted {
+    ghost from_gives = { λ c r. r ≡ flat_converted c };
 
-fn flat_converted(c: Converted) -> CaptionsTx3gConverted
-    ensures { result ≡ flat_converted c }
-{
-    match c {
-        Converted::Done {
-            cues,
-            records,
-            pool,
-            t,
-            dropped,
-        } => done_conversion(cues, records, pool, t, dropped),
-        Converted::BadEntry(why) => no_conversion(1, why),
-        Converted::BadTrack(why) => no_conversion(4, why),
-        Converted::NoRoom(why) => no_conversion(6, why),
+    #[tactic(auto, unfolding(verdict::specs::Judgement::fault))]
+    fn from(c: Result<StockList, StockFault>) -> Self {
+        match c {
+            Ok(list) => Self {
+                cues: list.cues,
+                record_bytes: list.records,
+                pool_bytes: list.pool,
+                t: list.t,
+                hlit: list.dropped.hlit,
+                retired_blinking: list.dropped.retired_blinking,
+                hclr: list.dropped.hclr,
+                krok: list.dropped.krok,
+                dlay: list.dropped.dlay,
+                href: list.dropped.href,
+                tbox: list.dropped.tbox,
+                twrp: list.dropped.twrp,
+                ..Self::default()
+            },
+            Err(StockFault::Entry(why)) => no_conversion(1, why),
+            Err(StockFault::Track(why)) => no_conversion(4, why),
+            Err(StockFault::Room(why)) => no_conversion(6, why),
+        }
     }
 }
 
@@ -1047,7 +916,7 @@ pub extern "C" fn captions_wvtt_judge_label(text: &[u8]) -> Refusal
 pub extern "C" fn captions_tx3g_count_characters(text: &[u8]) -> CaptionsCount
     ensures { result ≡ flat_count (characters_of text.now) }
 {
-    flat_count(characters::count_characters(text))
+    CaptionsCount::from(characters::count_characters(text))
 }
 
 // The box at `at`, in a container that ends with the bytes.
@@ -1055,7 +924,7 @@ pub extern "C" fn captions_tx3g_count_characters(text: &[u8]) -> CaptionsCount
 pub extern "C" fn captions_step(bytes: &[u8], at: usize) -> CaptionsStep
     ensures { result ≡ flat_step (step_at bytes.now at (length bytes.now)) }
 {
-    flat_step(boxes::step_at(bytes, at, bytes.len()))
+    CaptionsStep::from(boxes::step_at(bytes, at, bytes.len()))
 }
 
 #[unsafe(no_mangle)]
@@ -1092,7 +961,7 @@ pub extern "C" fn captions_wvtt_settings_room(
 ) -> CaptionsWritten
     ensures { result ≡ flat_written (given_room settings region.now) }
 {
-    flat_written(settings_flat::given_room(settings, region))
+    CaptionsWritten::from(settings_flat::given_room(settings, region))
 }
 
 #[unsafe(no_mangle)]
@@ -1105,7 +974,7 @@ pub extern "C" fn captions_wvtt_write_settings(
     ensures text_after { text.new ≡ written_after (given_written settings region.now (length text.old)) (written (record_with (settings_of settings) region.now)) text.old }
 {
     let w = settings_flat::write_given(settings, region, &mut *text);
-    flat_written(w)
+    CaptionsWritten::from(w)
 }
 
 #[unsafe(no_mangle)]
@@ -1120,14 +989,14 @@ pub extern "C" fn captions_wvtt_judge_sample(sample: &[u8]) -> Refusal
 pub extern "C" fn captions_wvtt_next_cue(sample: &[u8], from: usize) -> CaptionsCue
     ensures { result ≡ flat_held (next_cue sample.now (boxes_in sample.now from (length sample.now))) }
 {
-    flat_held(wvtt_cues::next_cue(sample, from))
+    CaptionsCue::from(wvtt_cues::next_cue(sample, from))
 }
 
 #[unsafe(no_mangle)]
 pub extern "C" fn captions_wvtt_read_entry(entry: &[u8]) -> CaptionsWvttEntry
     ensures { result ≡ flat_wvtt_entry (read_wvtt_entry entry.now) }
 {
-    flat_wvtt_entry(wvtt_entry::read_entry(entry))
+    CaptionsWvttEntry::from(wvtt_entry::read_entry(entry))
 }
 
 // The length that `captions_wvtt_write_entry` needs, or its refusal.
@@ -1139,7 +1008,7 @@ pub extern "C" fn captions_wvtt_entry_room(
 ) -> CaptionsWritten
     ensures { result ≡ flat_written (room_of configuration.now (label_of labelled label.now)) }
 {
-    flat_written(wvtt_entry_write::entry_room(configuration, labelled, label))
+    CaptionsWritten::from(wvtt_entry_write::entry_room(configuration, labelled, label))
 }
 
 // Writes an entry with a configuration, a label if `labelled`, and a data reference index.
@@ -1161,7 +1030,7 @@ pub extern "C" fn captions_wvtt_write_entry(
         data_reference_index,
         &mut *entry,
     );
-    flat_written(w)
+    CaptionsWritten::from(w)
 }
 
 #[unsafe(no_mangle)]
@@ -1188,7 +1057,7 @@ pub extern "C" fn captions_wvtt_pack_room(
 ) -> CaptionsPacked
     ensures { result ≡ flat_packed (pack_room scale t records.now pool.now) }
 {
-    flat_packed(pack::pack_room(scale, t, records, pool))
+    CaptionsPacked::from(pack::pack_room(scale, t, records, pool))
 }
 
 // Packs a cue list into a sample table and samples.
@@ -1206,7 +1075,7 @@ pub extern "C" fn captions_wvtt_pack(
     ensures samples_after { samples.new ≡ after (packed_of scale t records.now pool.now (length table.old) (length samples.old)) (samples_bytes (packed_track scale t records.now pool.now)) samples.old }
 {
     let p = pack::pack(scale, t, records, pool, &mut *table, &mut *samples);
-    flat_packed(p)
+    CaptionsPacked::from(p)
 }
 
 // The lengths that `captions_wvtt_unpack` needs, or its refusal.
@@ -1218,7 +1087,7 @@ pub extern "C" fn captions_wvtt_unpack_room(
 ) -> CaptionsUnpacked
     ensures { result ≡ flat_unpacked (unpack_room scale table.now samples.now) }
 {
-    flat_unpacked(unpack::unpack_room(scale, table, samples))
+    CaptionsUnpacked::from(unpack::unpack_room(scale, table, samples))
 }
 
 // Unpacks a track into records and their pool.
@@ -1235,7 +1104,7 @@ pub extern "C" fn captions_wvtt_unpack(
     ensures pool_after { pool.new ≡ out_of (unpack_of scale table.now samples.now (length records.old) (length pool.old)) (pool_of (track_cues table.now samples.now)) pool.old }
 {
     let u = unpack::unpack(scale, table, samples, &mut *records, &mut *pool);
-    flat_unpacked(u)
+    CaptionsUnpacked::from(u)
 }
 
 // Checks a track against a cue list.
@@ -1250,7 +1119,7 @@ pub extern "C" fn captions_wvtt_check(
 ) -> CaptionsChecked
     ensures { result ≡ flat_checked (checked scale t records.now pool.now table.now samples.now) }
 {
-    flat_checked(conform::check_track(scale, t, records, pool, table, samples))
+    CaptionsChecked::from(conform::check_track(scale, t, records, pool, table, samples))
 }
 
 // The lengths that `captions_drop_zero_durations` needs, or its refusal.
@@ -1258,7 +1127,7 @@ pub extern "C" fn captions_wvtt_check(
 pub extern "C" fn captions_drop_zero_durations_room(table: &[u8], samples: &[u8]) -> CaptionsDropped
     ensures { result ≡ flat_dropped (drop_room table.now samples.now) }
 {
-    flat_dropped(table_lasting::drop_zero_durations_room(table, samples))
+    CaptionsDropped::from(table_lasting::drop_zero_durations_room(table, samples))
 }
 
 // Copies a table and its samples without the samples of duration 0.
@@ -1274,7 +1143,7 @@ pub extern "C" fn captions_drop_zero_durations(
     ensures samples_out_after { samples_out.new ≡ drop_out (drop_of table.now samples.now (length table_out.old) (length samples_out.old)) (samples_of (lasting_of table.now samples.now)) samples_out.old }
 {
     let d = table_lasting::drop_zero_durations(table, samples, &mut *table_out, &mut *samples_out);
-    flat_dropped(d)
+    CaptionsDropped::from(d)
 }
 
 // The lengths that `captions_vtt_read` needs, or its refusal.
@@ -1282,7 +1151,7 @@ pub extern "C" fn captions_drop_zero_durations(
 pub extern "C" fn captions_vtt_read_room(file: &[u8]) -> CaptionsVttRead
     ensures { result ≡ flat_file (read_room file.now) }
 {
-    flat_file(vtt_read::read_room(file))
+    CaptionsVttRead::from(vtt_read::read_room(file))
 }
 
 // Reads a WebVTT file into records and their pool.
@@ -1297,7 +1166,7 @@ pub extern "C" fn captions_vtt_read(
     ensures pool_after { pool.new ≡ file_out (read_of file.now (length records.old) (length pool.old)) (file_pool file.now) pool.old }
 {
     let f = vtt_read::read(file, &mut *records, &mut *pool);
-    flat_file(f)
+    CaptionsVttRead::from(f)
 }
 
 // The length that `captions_vtt_write` needs, or its refusal.
@@ -1309,7 +1178,7 @@ pub extern "C" fn captions_vtt_write_room(
 ) -> CaptionsVttWritten
     ensures { result ≡ flat_file_written (write_room configuration.now records.now pool.now) }
 {
-    flat_file_written(vtt_write::write_room(configuration, records, pool))
+    CaptionsVttWritten::from(vtt_write::write_room(configuration, records, pool))
 }
 
 // Writes a configuration and a cue list as a WebVTT file.
@@ -1324,14 +1193,14 @@ pub extern "C" fn captions_vtt_write(
     ensures file_after { file.new ≡ file_after (file_written configuration.now records.now pool.now (length file.old)) (file_bytes configuration.now records.now pool.now) file.old }
 {
     let w = vtt_write::write(configuration, records, pool, &mut *file);
-    flat_file_written(w)
+    CaptionsVttWritten::from(w)
 }
 
 #[unsafe(no_mangle)]
 pub extern "C" fn captions_tx3g_read_entry(entry: &[u8]) -> CaptionsTx3gEntry
     ensures { result ≡ flat_tx3g_entry (read_tx3g_entry entry.now) }
 {
-    flat_tx3g_entry(tx3g_read::read_entry(entry))
+    CaptionsTx3gEntry::from(tx3g_read::read_entry(entry))
 }
 
 // The font that stands at a byte of an entry.
@@ -1339,7 +1208,7 @@ pub extern "C" fn captions_tx3g_read_entry(entry: &[u8]) -> CaptionsTx3gEntry
 pub extern "C" fn captions_tx3g_font_at(entry: &[u8], at: usize) -> CaptionsFont
     ensures { result ≡ flat_font (font_in entry.now at) }
 {
-    flat_font(tx3g_read::font_at(entry, at))
+    CaptionsFont::from(tx3g_read::font_at(entry, at))
 }
 
 // A sample beside its entry: its text, where its modifiers and styles stand, the character count, and whether there is a `blnk`; or whose fault it is.
@@ -1347,7 +1216,7 @@ pub extern "C" fn captions_tx3g_font_at(entry: &[u8], at: usize) -> CaptionsFont
 pub extern "C" fn captions_tx3g_read_sample(entry: &[u8], sample: &[u8]) -> CaptionsTx3gSample
     ensures { result ≡ flat_content (content_of entry.now sample.now) }
 {
-    flat_content(tx3g_read::read_content(entry, sample))
+    CaptionsTx3gSample::from(tx3g_read::read_content(entry, sample))
 }
 
 // The style of character k.
@@ -1355,7 +1224,7 @@ pub extern "C" fn captions_tx3g_read_sample(entry: &[u8], sample: &[u8]) -> Capt
 pub extern "C" fn captions_tx3g_style(entry: &[u8], sample: &[u8], k: usize) -> CaptionsStyle
     ensures { result ≡ flat_styled (style_of entry.now sample.now k) }
 {
-    flat_styled(tx3g_style::style_at(entry, sample, k))
+    CaptionsStyle::from(tx3g_style::style_at(entry, sample, k))
 }
 
 // The run that begins at character k, where `styles` styles are left and the first of them stands at `styles_from`.
@@ -1383,10 +1252,15 @@ pub extern "C" fn captions_tx3g_text_box<'a>(entry: &'a [u8], sample: &'a [u8]) 
     let p = tx3g_box::find_box(entry, sample);
     let bytes = tx3g_box::text_box(entry, sample, p);
     match p {
-        Spot::Sample(at) => box_of(true, at, read_edges(bytes, 0)),
-        Spot::Entry => box_of(false, 26, read_edges(bytes, 0)),
-        Spot::BadEntry(why) => no_box(why, 1),
-        Spot::BadSample(why) => no_box(why, 2),
+        Ok(found) => {
+            let edges = read_edges(bytes, 0);
+            match found {
+                Some(at) => box_of(true, at, edges),
+                None => box_of(false, 26, edges),
+            }
+        }
+        Err(Fault::Entry(why)) => no_box(why, 1),
+        Err(Fault::Sample(why)) => no_box(why, 2),
     }
 }
 
@@ -1396,7 +1270,7 @@ pub extern "C" fn captions_tx3g_text_box<'a>(entry: &'a [u8], sample: &'a [u8]) 
 pub extern "C" fn captions_tx3g_next_modifier(sample: &[u8], from: usize) -> CaptionsModifier
     ensures { result ≡ flat_modified (next_modifier sample.now (boxes_in sample.now from (length sample.now))) }
 {
-    flat_modified(tx3g_modifiers::next_modifier(sample, from))
+    CaptionsModifier::from(tx3g_modifiers::next_modifier(sample, from))
 }
 
 // The lengths that `captions_tx3g_convert` needs, or its refusal.
@@ -1409,7 +1283,7 @@ pub extern "C" fn captions_tx3g_convert_room(
 ) -> CaptionsTx3gConverted
     ensures { result ≡ flat_converted (convert_room scale entry.now table.now samples.now) }
 {
-    flat_converted(tx3g_convert::convert_room(scale, entry, table, samples))
+    CaptionsTx3gConverted::from(tx3g_convert::convert_room(scale, entry, table, samples))
 }
 
 // Converts a `tx3g` track into records and their pool.
@@ -1427,5 +1301,5 @@ pub extern "C" fn captions_tx3g_convert(
     ensures pool_after { pool.new ≡ convert_out (convert_of scale entry.now table.now samples.now (length records.old) (length pool.old)) (pool_of (stock_cues entry.now table.now samples.now)) pool.old }
 {
     let c = tx3g_convert::convert(scale, entry, table, samples, &mut *records, &mut *pool);
-    flat_converted(c)
+    CaptionsTx3gConverted::from(c)
 }

@@ -10,13 +10,12 @@ use lib.ListN.{length, get_or, drop, drop_of_length-le}
 use lib.Seq.{drop-cons}
 use Rattle.base.specs.Choice.{pick}
 use Rattle.base.proofs.Choice.{both_right, true-false}
-use Rattle.viable.specs.declared.Judged.{Judged}
-use Rattle.viable.specs.declared.Judged.TheVariants.{Right, Bad as BadAt}
+use Rattle.viable.specs.Judged.{Judged, Right, Bad as BadAt}
 use Rattle.viable.specs.FirstBad.{judged_by}
 use Rattle.viable.proofs.FirstBad.{judged-right, when-right}
 use Rattle.utf8.specs.Strings.{starts_with}
 use Rattle.characters.specs.Characters.{is_tail, firsts, is_low, first_units, mark, tx3g_text, tx3g_begun, character_count, count_by, characters_of}
-use Rattle.characters.specs.declared.Counted.TheVariants.{Characters, Bad}
+use Rattle.characters.specs.Counted.{Characters, Bad}
 
 pub firsts_at : (s : List ℕ) (i : ℕ) → i < length s → firsts (drop i s) ≡ pick (is_tail (get_or s i 0)) 0 1 + firsts (drop (i + 1) s)
 unfolding firsts

@@ -12,8 +12,7 @@ use lib.Seq.{drop-cons}
 use Rattle.base.specs.Choice.{pick, within}
 use Rattle.base.proofs.Choice.{by-test}
 use Rattle.viable.specs.FirstBad.{stops_at, judged_by}
-use Rattle.viable.specs.declared.Judged.{Judged}
-use Rattle.viable.specs.declared.Judged.TheVariants.{Right, Bad}
+use Rattle.viable.specs.Judged.{Judged, Right, Bad}
 use Rattle.viable.proofs.FirstBad.{stops_same, judged-right, judged-bad, judged-same}
 use Rattle.utf8.specs.Strings.{starts_with, agree}
 use Rattle.utf8.specs.Utf8.{utf8, utf8_begun, judge, begun, follow, follow_in, rows}

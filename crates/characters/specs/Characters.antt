@@ -1,13 +1,11 @@
 -- The characters of a 3GPP text: UTF-16 after the mark FE FF, else UTF-8.
 use Rattle.std.specs.Prelude.{ℕ, ◌+◌, List, [], ◌∷◌, Bool, true, false, not, drop}
 use Rattle.base.specs.Choice.{pick, both, any_of, within}
-use Rattle.viable.specs.declared.Judged.{Judged}
-use Rattle.viable.specs.declared.Judged.TheVariants.{Right, Bad as BadAt}
+use Rattle.viable.specs.Judged.{Judged, Right, Bad as BadAt}
 use Rattle.viable.specs.FirstBad.{judged_by}
 use Rattle.utf8.specs.Utf8.{utf8, utf8_begun}
 use Rattle.utf8.specs.Strings.{starts_with}
-use Rattle.characters.specs.declared.Counted.{Counted}
-use Rattle.characters.specs.declared.Counted.TheVariants.{Characters, Bad}
+use Rattle.characters.specs.Counted.{Counted, Characters, Bad}
 
 -- b is UTF8-tail
 unfoldable pub is_tail : ℕ → Bool

@@ -14,25 +14,15 @@ use text::agreeing;
 use utf8::{Rule, judge_rule};
 use viable::Judged;
 
-// A text's characters.
-#[derive(Clone, Copy)]
-pub enum Counted {
-    Characters(usize),
-    // Bytes that are neither UTF-8 nor UTF-16 after its mark, and the first bad one.
-    Bad(usize),
-}
-
 // 1 for a byte that begins a character of UTF-8, else 0.
+#[tactic(auto, unfolding(crate::specs::Characters::is_tail))]
 fn first_byte(b: u8) -> usize
     ensures { (result ≡ pick (is_tail b) 0 1) × (result ≤ 1) }
 {
-    if is_within(0x80, 0xBF, b) {
-        return 0;
-    }
-    1
+    usize::from(!is_within(0x80, 0xBF, b))
 }
 
-// How many of the eight bytes from i begin a character.
+// How many of the eight bytes from i begin a character. Each is written out: the edit `eighth_not_counted` tells the eighth from the seventh.
 fn count8(s: &[u8], i: usize) -> usize
     requires { i + 8 ≤ length s.now }
     ensures { (result ≡ firsts_in s.now i 8) × (result ≤ 8) }
@@ -53,10 +43,8 @@ fn count_from(s: &[u8], from: usize) -> usize
     ensures { result ≡ firsts_in s.now from (length s.now - from) }
 {
     let mut n = 0;
-    let mut i = from;
-    while i < s.len() {
+    for i in from..s.len() {
         n += first_byte(s[i]);
-        i += 1;
     }
     n
 }
@@ -65,13 +53,12 @@ fn count_from(s: &[u8], from: usize) -> usize
 pub fn count_firsts(s: &[u8]) -> usize
     ensures { result ≡ firsts s.now }
 {
+    let whole = s.len() / 8 * 8;
     let mut n = 0;
-    let mut i = 0;
-    while i + 8 <= s.len() {
+    for i in (0..whole).step_by(8) {
         n += count8(s, i);
-        i += 8;
     }
-    n + count_from(s, i)
+    n + count_from(s, whole)
 }
 
 // Whether h is the high byte of a low surrogate.
@@ -85,76 +72,63 @@ fn is_low(h: u8) -> bool
 fn is_expected(due: bool, h: u8) -> bool
     ensures { result ≡ same_test (is_low h) due }
 {
-    if is_low(h) {
-        return due;
-    }
-    !due
+    is_low(h) == due
 }
 
 // 1 for the high byte of a unit that begins a character of UTF-16, else 0.
 fn first_unit(h: u8) -> usize
     ensures { (result ≡ pick (is_low h) 0 1) × (result ≤ 1) }
 {
-    if !is_low(h) {
-        return 1;
-    }
-    0
+    usize::from(!is_low(h))
 }
 
 // The characters of UTF-16 after its mark.
-fn count_utf16(s: &[u8]) -> Counted
+fn count_utf16(s: &[u8]) -> Result<usize, usize>
     requires { starts_with mark s.now ≡ true }
     ensures { result ≡ characters_of s.now }
 {
     let mut due = false;
     let mut n = 0;
     let mut i = 2;
+    // What is left after the loop is judged by its last place.
     while i + 1 < s.len() {
         if !is_expected(due, s[i]) {
-            return Counted::Bad(i);
+            return Err(i);
         }
         n += first_unit(s[i]);
         due = is_within(0xD8, 0xDB, s[i]);
         i += 2;
     }
     if i < s.len() {
-        if !is_expected(due, s[i]) {
-            return Counted::Bad(i);
-        }
-        return Counted::Bad(s.len());
+        Err(if is_expected(due, s[i]) { s.len() } else { i })
+    } else if due {
+        Err(s.len())
+    } else {
+        Ok(n)
     }
-    if due {
-        return Counted::Bad(s.len());
-    }
-    Counted::Characters(n)
 }
 
 // The characters of UTF-8.
-fn count_utf8(s: &[u8]) -> Counted
+fn count_utf8(s: &[u8]) -> Result<usize, usize>
     ensures { result ≡ count_by (judged_by utf8 utf8_begun s.now) (firsts s.now) }
 {
     if is_ascii(s) {
-        return Counted::Characters(s.len());
+        return Ok(s.len());
     }
-    let j = judge_rule(s, Rule::Any);
-    match j {
-        Judged::Right => Counted::Characters(count_firsts(s)),
-        Judged::Bad(offset) => Counted::Bad(offset),
+    match judge_rule(s, Rule::Any) {
+        Ok(()) => Ok(count_firsts(s)),
+        Err(offset) => Err(offset),
     }
 }
 
 // The characters of a 3GPP text.
-pub fn count_characters(s: &[u8]) -> Counted
+pub fn count_characters(s: &[u8]) -> Result<usize, usize>
     ensures { result ≡ characters_of s.now }
 {
-    let mark: [u8; 2] = [0xFE, 0xFF];
-    let n = agreeing(s, &mark);
-    if n == 2 {
-        return count_utf16(s);
+    match agreeing(s, &[0xFE, 0xFF]) {
+        2 => count_utf16(s),
+        // FE is in no UTF-8, but may begin the mark.
+        1 => Err(1),
+        _ => count_utf8(s),
     }
-    // FE is in no UTF-8, but may begin the mark.
-    if n == 1 {
-        return Counted::Bad(1);
-    }
-    count_utf8(s)
 }

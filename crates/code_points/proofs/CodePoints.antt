@@ -18,7 +18,7 @@ use Rattle.utf8.specs.Utf8.{Range, Row, tail, rows, follow_in, follow, on_some, 
 use Rattle.utf8.specs.Strings.{starts_with}
 use Rattle.characters.specs.Characters.{is_tail, firsts, mark, tx3g_text, character_count, characters_of}
 use Rattle.characters.proofs.Counts.{right-counted}
-use Rattle.characters.specs.declared.Counted.TheVariants.{Characters}
+use Rattle.characters.specs.Counted.{Characters}
 use Rattle.utf8.proofs.Ranges.{inside, below, above, in-range, same_asked, same_asked_lem}
 use Rattle.code_points.specs.CodePoints.{scalar, scalars, encode, joined, Encoded, Utf8Is}
 

@@ -12,7 +12,7 @@ use lib.ListN.{length, drop}
 use Rattle.base.specs.Choice.{both, within}
 use Rattle.base.proofs.Choice.{both_left, both_right, true-false, either, by-test}
 use Rattle.viable.specs.FirstBad.{bytes}
-use Rattle.characters.specs.declared.Counted.TheVariants.{Characters}
+use Rattle.characters.specs.Counted.{Characters}
 use Rattle.characters.specs.Characters.{is_high, is_low, same_test, utf16, first_units, mark, tx3g_text, character_count, characters_of}
 use Rattle.characters.proofs.Counts.{right-counted, counted-text}
 use Rattle.characters.proofs.Begun.{text-marked, text-other}

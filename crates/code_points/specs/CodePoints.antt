@@ -5,7 +5,7 @@ use Rattle.base.specs.Choice.{pick, both, within}
 use Rattle.utf8.specs.Utf8.{utf8}
 use Rattle.viable.specs.FirstBad.{bytes}
 use Rattle.characters.specs.Characters.{utf16, mark, characters_of}
-use Rattle.characters.specs.declared.Counted.TheVariants.{Characters}
+use Rattle.characters.specs.Counted.{Characters}
 
 -- a character's number: at most 10FFFF, and no surrogate
 unfoldable pub scalar : ℕ → Bool

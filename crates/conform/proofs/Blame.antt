@@ -4,12 +4,10 @@ use mathlib.Core.Path.{◌≡◌, refl, ◌∙◌}
 use mathlib.Core.List.{List}
 use native.Mathlib.Omega.{arith}
 use Rattle.verdict.specs.declared.Refusal.{Refusal}
-use Rattle.verdict.specs.declared.Verdict.{Verdict}
-use Rattle.verdict.specs.declared.Verdict.TheVariants.{Fine, Refused}
+use Rattle.verdict.specs.Verdict.{Verdict, Fine, Refused}
 use Rattle.verdict.specs.Judgement.{◌then◌}
 use Rattle.cues.specs.Judgement.{judge_list}
-use Rattle.conform.specs.declared.Checked.{Checked}
-use Rattle.conform.specs.declared.Checked.TheVariants.{Passed, BadList, BadTrack}
+use Rattle.conform.specs.Checked.{Checked, Passed, BadList, BadTrack}
 use Rattle.conform.specs.Conformance.{track_verdict, conformance, of_track, unless_list, checked, verdict_of, VerdictIs}
 
 of-track : (w : Verdict) → verdict_of (of_track w) ≡ w

@@ -23,21 +23,19 @@ use Rattle.timeline.proofs.Listing.{length-listed, listed_at, listed-from}
 use Rattle.records.specs.Records.{count, source_id, start_ms, end_ms, identifier_of, settings_of, payload_of}
 use Rattle.cues.specs.List.{body_of, cue_of, cues_of, Sound}
 use Rattle.wvtt_cues.specs.declared.Parts.{Parts}
-use Rattle.wvtt_cues.specs.declared.Held.{Held}
-use Rattle.wvtt_cues.specs.declared.Held.TheVariants.{Cue as HeldCue}
+use Rattle.wvtt_cues.specs.Held.{Held, Cue as HeldCue}
 use Rattle.boxes.specs.Boxes.{boxes_in}
 use Rattle.wvtt_cues.specs.Cues.{text_of, held_by, sample_cues, next_cue}
 use Rattle.wvtt_cues.specs.Walk.{held_from, Next}
 use Rattle.wvtt_cues.proofs.Walk.{next-means}
-use Rattle.verdict.specs.declared.Verdict.TheVariants.{Fine}
+use Rattle.verdict.specs.Verdict.{Fine}
 use Rattle.table.specs.Table.{row_count, duration_of, size_of, offset_of, bytes_of}
 use Rattle.track.specs.Track.{sample_of, track_of, judge_track}
 use Rattle.table.proofs.Laws.{offset-suc, laid-inside}
 use Rattle.track.proofs.Laws.{fine-readable}
 use Rattle.conform.specs.declared.Stretch.{Stretch}
 use Rattle.conform.specs.declared.Window.{Window}
-use Rattle.conform.specs.declared.Met.{Met}
-use Rattle.conform.specs.declared.Met.TheVariants.{On, Differs}
+use Rattle.conform.specs.Met.{Met, On, Differs}
 use Rattle.conform.specs.Conformance.{answered}
 use Rattle.conform.specs.Window.{Ended, Started, Later, Rises, Pooled, Reached, Around, on_met}
 

@@ -1,3 +1,4 @@
 pub mod Laws
 pub mod Exactly
+pub mod Errors
 pub mod Blame

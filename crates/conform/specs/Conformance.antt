@@ -1,7 +1,6 @@
 -- The check of a track against a list of cue records. Document 01, 'Tracks and packing' and 'Order'.
 use Rattle.std.specs.Prelude.{ℕ, ◌<◌, ◌≡◌, ◌↔◌, List}
-use Rattle.verdict.specs.declared.Verdict.{Verdict}
-use Rattle.verdict.specs.declared.Verdict.TheVariants.{Fine, Refused}
+use Rattle.verdict.specs.Verdict.{Verdict, Fine, Refused}
 use Rattle.verdict.specs.Judgement.{refuse, ◌then◌}
 use Rattle.times.specs.Times.{tick}
 use Rattle.timeline.specs.Checking.{Answer, accepted, wrong, short, check, Means}
@@ -9,8 +8,7 @@ use Rattle.cues.specs.Judgement.{judge_list}
 use Rattle.cues.specs.List.{cues_of}
 use Rattle.table.specs.Table.{row_count}
 use Rattle.track.specs.Track.{judge_track, track_of}
-use Rattle.conform.specs.declared.Checked.{Checked}
-use Rattle.conform.specs.declared.Checked.TheVariants.{Passed, BadList, BadTrack}
+use Rattle.conform.specs.Checked.{Checked, Passed, BadList, BadTrack}
 
 -- 16: the first sample that ends past T or holds a tick with the wrong cues; else, if the sum is below T, the sample count
 abbrev pub answered : Answer → Verdict

@@ -1,2 +1,4 @@
+pub mod Met
+pub mod Checked
 pub mod Conformance
 pub mod Window

@@ -9,8 +9,7 @@ use Rattle.conform.specs.declared.Stretch.{Stretch}
 use Rattle.conform.specs.declared.Window.{Window}
 use Rattle.conform.specs.declared.Stand.{Stand}
 use Rattle.conform.specs.declared.Stand.TheVariants.{Out, Whole, Partly}
-use Rattle.conform.specs.declared.Met.{Met}
-use Rattle.conform.specs.declared.Met.TheVariants.{On, Differs}
+use Rattle.conform.specs.Met.{Met, On, Differs}
 
 -- the records before number `first` have ended by tick b
 abbrev pub Ended : ℕ → List ℕ → ℕ → ℕ → Type 0

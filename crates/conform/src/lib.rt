@@ -3,7 +3,7 @@
 
 ghost use Rattle.std.specs.Prelude.{◌≡◌, List, ℕ, ◌+◌, ◌≤◌, ◌<◌, length};
 ghost use Rattle.base.specs.Choice.{same_list};
-ghost use Rattle.verdict.specs.declared.Verdict.TheVariants.{Fine};
+ghost use Rattle.verdict.specs.Verdict.{Fine};
 ghost use Rattle.times.specs.Times.{tick};
 ghost use Rattle.timeline.specs.Cues.{same_body};
 ghost use Rattle.timeline.specs.Checking.{standing, none_left, whole, matches, check};
@@ -15,6 +15,7 @@ ghost use Rattle.track.specs.Track.{track_of, judge_track};
 ghost use Rattle.conform.specs.Window.{Ended, Started, Later, Rises, Pooled, Reached, Around, stand_of, Finds};
 ghost use Rattle.conform.specs.Conformance.{answered, track_verdict, of_track, checked};
 
+use boxes::Part;
 use compare::same_bytes;
 use cues::judge_list;
 use records::{
@@ -24,8 +25,15 @@ use records::{
 use table::{duration_at, size_at};
 use times::tick_of;
 use track::judge_track;
-use verdict::{Refusal, Verdict, refused};
-use wvtt_cues::{Held, Part, Parts, next_cue};
+use verdict::{Reason, Refusal, Verdict};
+use wvtt_cues::{Parts, next_cue};
+
+// Whose fault it is that the track does not show the list's cues.
+#[derive(Clone, Copy)]
+pub enum Fault {
+    List(Refusal),
+    Track(Refusal),
+}
 
 // The ticks of a sample: from `begin` to before `end`.
 #[derive(Clone, Copy)]
@@ -49,29 +57,12 @@ pub enum Stand {
     Partly,
 }
 
-// What a record finds in a sample: all is well up to a place, or it differs.
-#[derive(Clone, Copy)]
-pub enum Met {
-    On { next: usize },
-    Differs,
-}
-
-// What the check answers: the track shows the list's cues, or whose fault it is that it does not.
-#[derive(Clone, Copy)]
-pub enum Checked {
-    Passed,
-    BadList(Refusal),
-    BadTrack(Refusal),
-}
-
 // The n bytes of the pool from a place are the text of a part.
 fn same_text(pool: &[u8], from: usize, n: usize, s: &[u8], part: Part) -> bool
     requires { (from + n ≤ length pool.now) × Within (length s.now) part }
     ensures { result ≡ same_list (piece pool.now from n) (text_of s.now part) }
 {
-    let at = part.from;
-    let end = part.end;
-    same_bytes(&pool[from..from + n], &s[at..end])
+    same_bytes(&pool[from..from + n], &s[part.from..part.end])
 }
 
 // The three texts of record i, each against a part of a sample.
@@ -107,22 +98,11 @@ fn same_cue(records: &[u8], pool: &[u8], i: usize, s: &[u8], parts: Parts) -> bo
     requires { (i < count records.now) × (texts_end records.now i ≤ length pool.now) × Inside (length s.now) parts }
     ensures { result ≡ same_body (body_of records.now pool.now i) (held_by s.now parts) }
 {
-    if !parts.named {
-        return false;
-    }
-    if source_id(records, i) != parts.id {
-        return false;
-    }
-    let identifier = parts.identifier;
-    let settings = parts.settings;
-    let payload = parts.payload;
-    if !same_identifier(records, pool, i, s, identifier) {
-        return false;
-    }
-    if !same_settings(records, pool, i, s, settings) {
-        return false;
-    }
-    same_payload(records, pool, i, s, payload)
+    parts.named
+        && source_id(records, i) == parts.id
+        && same_identifier(records, pool, i, s, parts.identifier)
+        && same_settings(records, pool, i, s, parts.settings)
+        && same_payload(records, pool, i, s, parts.payload)
 }
 
 fn start_tick(scale: u32, records: &[u8], i: usize) -> u64
@@ -146,29 +126,25 @@ fn stand_of(scale: u32, records: &[u8], i: usize, x: Stretch) -> Stand
 {
     let end = end_tick(scale, records, i);
     if end <= x.begin {
-        return Stand::Out;
+        Stand::Out
+    } else if x.begin < start_tick(scale, records, i) || end < x.end {
+        Stand::Partly
+    } else {
+        Stand::Whole
     }
-    if x.begin < start_tick(scale, records, i) {
-        return Stand::Partly;
-    }
-    if end < x.end {
-        return Stand::Partly;
-    }
-    Stand::Whole
 }
 
 // The next cue of a sample is record i's.
-fn take_cue(records: &[u8], pool: &[u8], i: usize, s: &[u8], at: usize) -> Met
+fn take_cue(records: &[u8], pool: &[u8], i: usize, s: &[u8], at: usize) -> Option<usize>
     requires { (i < count records.now) × (texts_end records.now i ≤ length pool.now) }
     ensures { Finds whole (body_of records.now pool.now i) s.now at result }
 {
-    let Held::Cue { parts, next } = next_cue(s, at) else {
-        return Met::Differs;
-    };
+    let (parts, next) = next_cue(s, at).ok()??;
     if same_cue(records, pool, i, s, parts) {
-        return Met::On { next };
+        Some(next)
+    } else {
+        None
     }
-    Met::Differs
 }
 
 // Record i, held against a sample from a place on.
@@ -180,26 +156,26 @@ fn match_record(
     s: &[u8],
     at: usize,
     x: Stretch,
-) -> Met
+) -> Option<usize>
     requires { (i < count records.now) × (texts_end records.now i ≤ length pool.now) × (tick scale (start_ms records.now i) < x.end) }
     ensures { Finds (standing (cue_of scale records.now pool.now i) x.begin x.end) (body_of records.now pool.now i) s.now at result }
 {
     match stand_of(scale, records, i, x) {
-        Stand::Out => Met::On { next: at },
+        Stand::Out => Some(at),
         Stand::Whole => take_cue(records, pool, i, s, at),
-        Stand::Partly => Met::Differs,
+        Stand::Partly => None,
     }
 }
 
-// No cue is left in a sample from a place on.
+// No cue is left in a sample from a place on. Three arms: an or-pattern tells the proof of the last one too little.
 fn none_left(s: &[u8], at: usize) -> bool
     ensures { result ≡ none_left (held_from s.now at) }
 {
     match next_cue(s, at) {
-        Held::Cue { parts: _, next: _ } => false,
+        Ok(Some(_)) => false,
+        Ok(None) => true,
         // a track without fault has no refusal here
-        Held::Refused(_) => true,
-        Held::End => true,
+        Err(_) => true,
     }
 }
 
@@ -215,16 +191,13 @@ fn match_sample(
     requires { Pooled records.now pool.now × Around scale records.now window x }
     ensures { result ≡ matches (cues_of scale records.now pool.now) x.begin x.end (sample_cues s.now) }
 {
-    let last = window.last;
-    let mut i = window.first;
     let mut at = 0;
-    while i < last {
+    for i in window.first..window.last {
         let met = match_record(scale, records, pool, i, s, at, x);
-        let Met::On { next } = met else {
+        let Some(next) = met else {
             return false;
         };
         at = next;
-        i += 1;
     }
     none_left(s, at)
 }
@@ -235,14 +208,12 @@ fn skip_ended(scale: u32, records: &[u8], first: usize, b: u64) -> usize
     ensures { (result ≤ count records.now) × Ended scale records.now result b }
 {
     let n = records.len() / 24;
-    let mut i = first;
-    while i < n {
+    for i in first..n {
         if b < end_tick(scale, records, i) {
             return i;
         }
-        i += 1;
     }
-    i
+    n
 }
 
 // From `last` on, to the first record that starts at tick e or later.
@@ -251,14 +222,12 @@ fn pass_started(scale: u32, records: &[u8], last: usize, e: u64) -> usize
     ensures { (result ≤ count records.now) × Started scale records.now result e × Later scale records.now result e }
 {
     let n = records.len() / 24;
-    let mut i = last;
-    while i < n {
+    for i in last..n {
         if e <= start_tick(scale, records, i) {
             return i;
         }
-        i += 1;
     }
-    i
+    n
 }
 
 // The window, moved on to a stretch.
@@ -288,29 +257,28 @@ fn check_samples(
     let mut window = Window { first: 0, last: 0 };
     let mut begin = 0;
     let mut at = 0;
-    let mut i = 0;
-    while i < rows {
-        let end = begin + duration_at(table, i) as u64;
+    for i in 0..rows {
+        let end = begin + u64::from(duration_at(table, i));
         if limit < end {
-            return refused(16, i);
+            return Reason::Differs.refused(i);
         }
         let after = at + size_at(table, i);
         let x = Stretch { begin, end };
         window = move_window(scale, records, window, x);
         if !match_sample(scale, records, pool, &samples[at..after], window, x) {
-            return refused(16, i);
+            return Reason::Differs.refused(i);
         }
         begin = end;
         at = after;
-        i += 1;
     }
     if begin < limit {
-        return refused(16, rows);
+        return Reason::Differs.refused(rows);
     }
-    Verdict::Fine
+    Ok(())
 }
 
 // The track, beside a list without fault; then each sample against the list.
+#[tactic(auto, unfolding(crate::specs::Conformance::track_verdict))]
 fn check_beside(
     scale: u32,
     t: u32,
@@ -322,24 +290,12 @@ fn check_beside(
     requires { Sound scale t records.now pool.now }
     ensures { result ≡ track_verdict scale t records.now pool.now table.now samples.now }
 {
-    let v = judge_track(table, samples);
-    let Verdict::Fine = v else {
-        return v;
-    };
+    judge_track(table, samples)?;
     check_samples(scale, t, records, pool, table, samples)
 }
 
-// A verdict on the track, as an answer.
-fn of_track(v: Verdict) -> Checked
-    ensures { result ≡ of_track v }
-{
-    match v {
-        Verdict::Fine => Checked::Passed,
-        Verdict::Refused(why) => Checked::BadTrack(why),
-    }
-}
-
 // The check: the list, then the track, then each sample against the list.
+#[tactic(auto, unfolding(crate::specs::Conformance::checked))]
 pub fn check_track(
     scale: u32,
     t: u32,
@@ -347,12 +303,9 @@ pub fn check_track(
     pool: &[u8],
     table: &[u8],
     samples: &[u8],
-) -> Checked
+) -> Result<(), Fault>
     ensures { result ≡ checked scale t records.now pool.now table.now samples.now }
 {
-    let v = judge_list(scale, t, records, pool);
-    let Verdict::Refused(why) = v else {
-        return of_track(check_beside(scale, t, records, pool, table, samples));
-    };
-    Checked::BadList(why)
+    judge_list(scale, t, records, pool).map_err(Fault::List)?;
+    check_beside(scale, t, records, pool, table, samples).map_err(Fault::Track)
 }

@@ -11,7 +11,7 @@ use lib.ListN.{length, take, drop, get_or, set, length-set}
 use lib.Seq.{get_or-set_same, get_or-set_other}
 use Rattle.base.proofs.Choice.{by-test, true-false}
 use Rattle.base.proofs.First.{first-none, first_some}
-use Rattle.verdict.specs.declared.Verdict.TheVariants.{Fine}
+use Rattle.verdict.specs.Verdict.{Fine}
 use Rattle.verdict.specs.Judgement.{refuse}
 use Rattle.records.specs.Records.{source_id, start_ms, end_ms, text_offset, settings_offset, payload_offset, texts_end}
 use Rattle.records.proofs.Laws.{parts_are}

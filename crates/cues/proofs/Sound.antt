@@ -19,7 +19,7 @@ use Rattle.text.specs.Rules.{identifier_text, payload_text}
 use Rattle.text.specs.Beginnings.{identifier_begun, payload_begun}
 use Rattle.times.specs.Times.{tick, timeline_allowed}
 use Rattle.times.proofs.Laws.{timeline-limits, limits-timeline, tick-mono}
-use Rattle.verdict.specs.declared.Verdict.TheVariants.{Fine}
+use Rattle.verdict.specs.Verdict.{Fine}
 use Rattle.verdict.specs.Judgement.{◌gives◌at◌, text_at, ◌then◌, each}
 use Rattle.verdict.proofs.Judgement.{then-fine, both-fine, not-given, text-fine, text-right, each-fine, each_all}
 use Rattle.timeline.specs.Cues.{Cue, Proper, Named}

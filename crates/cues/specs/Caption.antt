@@ -5,8 +5,7 @@ use Rattle.viable.specs.FirstBad.{judged_by}
 use Rattle.text.specs.Rules.{identifier_text, payload_text}
 use Rattle.text.specs.Beginnings.{identifier_begun, payload_begun}
 use Rattle.times.specs.Times.{tick}
-use Rattle.verdict.specs.declared.Verdict.{Verdict}
-use Rattle.verdict.specs.declared.Verdict.TheVariants.{Fine}
+use Rattle.verdict.specs.Verdict.{Verdict, Fine}
 use Rattle.verdict.specs.Judgement.{◌gives◌at◌, text_at, ◌then◌}
 
 pub record Caption : Type 0 where

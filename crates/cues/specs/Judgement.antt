@@ -4,8 +4,7 @@ use Rattle.std.proofs.Math.Option.{Option, none, some}
 use Rattle.base.specs.Choice.{any_of}
 use Rattle.base.specs.First.{first}
 use Rattle.times.specs.Times.{timeline_allowed}
-use Rattle.verdict.specs.declared.Verdict.{Verdict}
-use Rattle.verdict.specs.declared.Verdict.TheVariants.{Fine}
+use Rattle.verdict.specs.Verdict.{Verdict, Fine}
 use Rattle.verdict.specs.Judgement.{refuse, ◌gives◌at◌, ◌then◌, each}
 use Rattle.records.specs.Records.{count, source_id, start_ms, end_ms, identifier_length, settings_length, payload_length, reserved, texts_end, identifier_of, settings_of, payload_of}
 use Rattle.cues.specs.Caption.{Caption, caption, long_texts, judge_content}

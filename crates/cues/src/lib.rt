@@ -13,49 +13,35 @@ use records::{
 };
 use text::{judge_identifier, judge_payload};
 use times::{tick_of, timeline_allowed};
-use verdict::{Verdict, refused, text_at};
+use verdict::{Reason, Verdict, text_at};
 
 // By the lengths of the three texts.
+#[tactic(auto, unfolding(crate::specs::Caption::long_texts))]
 pub fn long_texts(identifier: usize, settings: usize, payload: usize) -> bool
     ensures { result ≡ long_texts identifier settings payload }
 {
-    if 255 < identifier {
-        return true;
-    }
-    if 255 < settings {
-        return true;
-    }
-    4095 < payload
+    identifier > 255 || settings > 255 || payload > 4095
 }
 
 // The texts, from the first on.
+#[tactic(auto, unfolding(crate::specs::Caption::judge_texts))]
 fn judge_texts(identifier: &[u8], settings: &[u8], payload: &[u8], place: usize) -> Verdict
     ensures { result ≡ judge_texts identifier.now settings.now payload.now place }
 {
-    let first = text_at(place, judge_identifier(identifier));
-    let Verdict::Fine = first else {
-        return first;
-    };
-    let second = text_at(place, judge_identifier(settings));
-    let Verdict::Fine = second else {
-        return second;
-    };
+    text_at(place, judge_identifier(identifier))?;
+    text_at(place, judge_identifier(settings))?;
     text_at(place, judge_payload(payload))
 }
 
+#[tactic(auto, unfolding(crate::specs::Caption::bad_times))]
 pub fn bad_times(scale: u32, t: u32, start: u32, end: u32) -> bool
     ensures { result ≡ bad_times scale t start end }
 {
-    if end <= start {
-        return true;
-    }
-    if t < end {
-        return true;
-    }
-    tick_of(scale, end) <= tick_of(scale, start)
+    end <= start || t < end || tick_of(scale, end) <= tick_of(scale, start)
 }
 
 // A caption whose texts are within their limits; the cue before starts at `before`, which is 0 where there is none.
+#[tactic(auto, unfolding(crate::specs::Caption::judge_content))]
 pub fn judge_content(
     scale: u32,
     t: u32,
@@ -69,28 +55,24 @@ pub fn judge_content(
 ) -> Verdict
     ensures { result ≡ judge_content scale t before (caption start end identifier.now settings.now payload.now) place }
 {
-    let texts = judge_texts(identifier, settings, payload, place);
-    let Verdict::Fine = texts else {
-        return texts;
-    };
+    judge_texts(identifier, settings, payload, place)?;
     if bad_times(scale, t, start, end) {
-        return refused(10, place);
+        return Reason::BadTime.refused(place);
     }
     if start < before {
-        return refused(11, place);
+        Reason::BadOrder.refused(place)
+    } else {
+        Ok(())
     }
-    Verdict::Fine
 }
 
 // The tests of a record.
+#[tactic(auto, unfolding(crate::specs::Judgement::bad_value))]
 fn bad_value(records: &[u8], i: usize) -> bool
     requires { i * 24 + 24 ≤ length records.now }
     ensures { result ≡ bad_value records.now i }
 {
-    if 0x80000000 <= source_id(records, i) {
-        return true;
-    }
-    0 < reserved_bytes(records, i)
+    source_id(records, i) >= 0x80000000 || reserved_bytes(records, i) > 0
 }
 
 fn past_pool(records: &[u8], pool: &[u8], i: usize) -> bool
@@ -104,10 +86,7 @@ fn start_before(records: &[u8], i: usize) -> u32
     requires { i * 24 + 24 ≤ length records.now }
     ensures { result ≡ start_before records.now i }
 {
-    if i == 0 {
-        return 0;
-    }
-    start_ms(records, i - 1)
+    if i == 0 { 0 } else { start_ms(records, i - 1) }
 }
 
 // The caption of record i, whose texts lie in the pool.
@@ -132,22 +111,23 @@ fn judge_pooled(scale: u32, t: u32, records: &[u8], pool: &[u8], i: usize) -> Ve
     )
 }
 
+#[tactic(auto, unfolding(crate::specs::Judgement::judge_record))]
 fn judge_record(scale: u32, t: u32, records: &[u8], pool: &[u8], i: usize) -> Verdict
     requires { i * 24 + 24 ≤ length records.now }
     ensures { result ≡ judge_record scale t records.now pool.now i }
 {
     if bad_value(records, i) {
-        return refused(8, i);
+        return Reason::BadValue.refused(i);
     }
     if long_texts(
         identifier_length(records, i) as usize,
         settings_length(records, i) as usize,
         payload_length(records, i) as usize,
     ) {
-        return refused(9, i);
+        return Reason::PastLimit.refused(i);
     }
     if past_pool(records, pool, i) {
-        return refused(1, i);
+        return Reason::BytesMissing.refused(i);
     }
     judge_pooled(scale, t, records, pool, i)
 }
@@ -156,62 +136,54 @@ fn judge_records(scale: u32, t: u32, records: &[u8], pool: &[u8], n: usize) -> V
     requires { n * 24 ≤ length records.now }
     ensures { result ≡ each (judge_record scale t records.now pool.now) n }
 {
-    let mut i = 0;
-    while i < n {
-        let v = judge_record(scale, t, records, pool, i);
-        let Verdict::Fine = v else {
-            return v;
-        };
-        i += 1;
+    for i in 0..n {
+        judge_record(scale, t, records, pool, i)?;
     }
-    Verdict::Fine
+    Ok(())
 }
 
-// 12, where an ID stands twice. The search ends at the first pair found; i is the later record of it.
+// 12, where an ID stands twice. The search ends at the first pair found; the place is the later record of it.
 fn judge_ids(records: &[u8], n: usize) -> Verdict
     requires { n * 24 ≤ length records.now }
     ensures { result ≡ judge_ids records.now n }
 {
-    // The slots of the records before i, by the ID modulo 4,096: an ID whose slot is free has not stood earlier.
+    // The slots of the records so far, by the ID modulo 4,096: an ID whose slot is free has not stood earlier.
     let mut taken = [false; 4096];
-    let mut i = 0;
-    'search: while i < n {
+    let mut place = n;
+    'search: for i in 0..n {
         let id = source_id(records, i);
         let slot = id as usize % 4096;
         if taken[slot] {
-            let mut j = 0;
-            while j < i {
+            for j in 0..i {
                 if source_id(records, j) == id {
+                    place = i;
                     break 'search;
                 }
-                j += 1;
             }
         }
         taken[slot] = true;
-        i += 1;
     }
-    if i < n {
-        return refused(12, i);
+    if place < n {
+        Reason::IdTwice.refused(place)
+    } else {
+        Ok(())
     }
-    Verdict::Fine
 }
 
+#[tactic(auto, unfolding(crate::specs::Judgement::judge_list, records::specs::Records::count))]
 pub fn judge_list(scale: u32, t: u32, records: &[u8], pool: &[u8]) -> Verdict
     ensures { result ≡ judge_list scale t records.now pool.now }
 {
     if !timeline_allowed(scale, t) {
-        return refused(10, 0);
+        return Reason::BadTime.refused(0);
     }
     if 0 < records.len() % 24 {
-        return refused(1, 0);
+        return Reason::BytesMissing.refused(0);
     }
     let n = records.len() / 24;
     if 1024 < n {
-        return refused(9, 0);
+        return Reason::PastLimit.refused(0);
     }
-    let v = judge_records(scale, t, records, pool, n);
-    let Verdict::Fine = v else {
-        return v;
-    };
+    judge_records(scale, t, records, pool, n)?;
     judge_ids(records, n)
 }

@@ -65,31 +65,27 @@ fn skip_ended(scale: u32, records: &[u8], n: usize, first: usize, b: u64) -> usi
     requires ended { Ended scale records.now first b }
     ensures { (result ≤ n) × Ended scale records.now result b }
 {
-    let mut i = first;
-    while i < n {
+    for i in first..n {
         if b < end_tick(scale, records, i) {
             return i;
         }
-        i += 1;
     }
-    i
+    n
 }
 
-// From `last` on, to the first record that starts after b.
+// From `last` on, to the first record that starts after b. Like `skip_ended` but for the tick; a function over both would have to promise both, of which each speaks of other records.
 fn pass_started(scale: u32, records: &[u8], n: usize, last: usize, b: u64) -> usize
     requires inside { (n * 24 ≤ length records.now) × (last ≤ n) }
     requires started { Started scale records.now last b }
     ensures stops { (last ≤ result) × (result ≤ n) × (result < n → b < start_tick scale records.now result) }
     ensures all_started { Started scale records.now result b }
 {
-    let mut i = last;
-    while i < n {
+    for i in last..n {
         if b < start_tick(scale, records, i) {
             return i;
         }
-        i += 1;
     }
-    i
+    n
 }
 
 // The start of the first record that starts later, or else the end of the timeline.
@@ -98,9 +94,10 @@ fn next_start(scale: u32, end: u64, records: &[u8], n: usize, last: usize) -> u6
     ensures { result ≡ pick (ltb last n) (start_tick scale records.now last) end }
 {
     if last < n {
-        return start_tick(scale, records, last);
+        start_tick(scale, records, last)
+    } else {
+        end
     }
-    end
 }
 
 // What a record adds that has started by b: unless it has ended, it is shown and its end is a cut.
@@ -114,10 +111,10 @@ fn see_record(scale: u32, records: &[u8], k: usize, b: u64, s: Scan) -> Scan
         return s;
     }
     let cues = s.cues + record_size(records, k);
-    if s.next < end {
-        return Scan { next: s.next, cues };
+    Scan {
+        next: end.min(s.next),
+        cues,
     }
-    Scan { next: end, cues }
 }
 
 // The least end above b in the window, or else `top`; and the bytes of the cues that run at b.
@@ -135,10 +132,8 @@ fn scan_window(
     ensures { (result.next ≡ nearest top b (ticks_to scale records.now last)) × (result.cues ≡ cues_size scale records.now b n) × (result.cues ≤ 268435456) }
 {
     let mut s = Scan { next: top, cues: 0 };
-    let mut k = first;
-    while k < last {
+    for k in first..last {
         s = see_record(scale, records, k, b, s);
-        k += 1;
     }
     s
 }
@@ -174,10 +169,7 @@ pub fn sample_size(cues: usize) -> usize
     requires { cues ≤ 268435456 }
     ensures { (result ≡ or_empty cues) × (result ≤ 268435456) }
 {
-    if cues == 0 {
-        return 8;
-    }
-    cues
+    if cues == 0 { 8 } else { cues }
 }
 
 // The samples of the records and their bytes, counted and not written.

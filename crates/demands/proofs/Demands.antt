@@ -1,4 +1,5 @@
 -- Proofs of the demands from the laws of the crates below.
+use Rattle.std.proofs.Common.{Ok}
 use Prim.Native.Nat.{ℕ}
 use mathlib.Core.Path.{◌≡◌, refl, sym, ap, ap₂, ◌∙◌, subst}
 use mathlib.Core.List.{List}
@@ -8,8 +9,7 @@ use borrow.Author.Tests.{lt-ltb, le-ltb}
 use lib.ListN.{length, take, drop}
 use Rattle.base.proofs.Over.{take-over, drop-over}
 use Rattle.verdict.specs.declared.Refusal.{Refusal}
-use Rattle.verdict.specs.declared.Verdict.{Verdict}
-use Rattle.verdict.specs.declared.Verdict.TheVariants.{Fine, Refused as Refuses}
+use Rattle.verdict.specs.Verdict.{Verdict, Fine, Refused as Refuses}
 use Rattle.verdict.specs.Judgement.{fault}
 use Rattle.verdict.proofs.Judgement.{both-fine}
 use Rattle.times.specs.Times.{tick}
@@ -26,13 +26,11 @@ use Rattle.table.specs.Table.{row_count}
 use Rattle.track.specs.Track.{track_of, judge_track, Readable}
 use Rattle.track.proofs.Laws.{fine-readable, readable-fine}
 use Rattle.track.proofs.Samples.{length-track, rows-positive, positive-rows}
-use Rattle.pack.specs.declared.Packed.{Packed}
-use Rattle.pack.specs.declared.Packed.TheVariants.{Done, Refused}
+use Rattle.pack.specs.Packed.{Packed, Done, Refused}
 use Rattle.pack.specs.Packing.{packed_track, table_bytes, samples_bytes, pack_room, roomed, packed_of}
 use Rattle.pack.proofs.Answers.{packs, done-means}
 use Rattle.pack.proofs.Track.{packed-is-right, samples-most, reads-back, packed-readable}
-use Rattle.conform.specs.declared.Checked.{Checked}
-use Rattle.conform.specs.declared.Checked.TheVariants.{Passed, BadList, BadTrack}
+use Rattle.conform.specs.Checked.{Checked, Passed, BadList, BadTrack}
 use Rattle.conform.specs.Conformance.{conformance, of_track, verdict_of}
 use Rattle.conform.proofs.Blame.{verdict-is, passes, track-at-fault, list-at-fault}
 use Rattle.conform.proofs.Exactly.{answers-exactly}
@@ -114,7 +112,7 @@ packing-is-done scale T records pool table samples table_after samples_after ans
 
 tells : (p : Packed) (a c : ℕ) (answer : Packed) → answer ≡ roomed a c p → Tells p a c answer
 tells (Refused r) a c answer e = e
-tells (Done n t b) a c answer e = ((λ h k. e ∙ rw (le-ltb a t h, le-ltb c b k)), (λ h. e ∙ rw (lt-ltb a t h)), λ h k. e ∙ rw (le-ltb a t h, lt-ltb c b k))
+tells (Ok x) a c answer e = ((λ h k. e ∙ rw (le-ltb a x.table h, le-ltb c x.bytes k)), (λ h. e ∙ rw (lt-ltb a x.table h)), λ h k. e ∙ rw (le-ltb a x.table h, lt-ltb c x.bytes k))
 
 pub pack-room-tells : PackRoomTells
 unfolding packed_of

@@ -1,4 +1,5 @@
 -- Proofs of what is said of reading a file.
+use Rattle.std.proofs.Common.{Ok}
 use Prim.Native.Nat.{ℕ, ◌<◌, ◌≤◌}
 use mathlib.Core.Path.{◌≡◌, sym, ap, ap₂, ◌∙◌, subst}
 use mathlib.Core.Logic.{◌≢◌}
@@ -11,8 +12,7 @@ use lib.ListN.{length, take, drop, get_or}
 use Rattle.base.specs.Choice.{pick}
 use Rattle.base.proofs.Over.{take-over, drop-over}
 use Rattle.verdict.specs.declared.Refusal.{Refusal}
-use Rattle.verdict.specs.declared.Verdict.{Verdict}
-use Rattle.verdict.specs.declared.Verdict.TheVariants.{Fine, Refused as Faulty}
+use Rattle.verdict.specs.Verdict.{Verdict, Fine, Refused as Faulty}
 use Rattle.verdict.specs.Judgement.{fault}
 use Rattle.times.specs.Times.{tick}
 use Rattle.timeline.specs.Packing.{packed}
@@ -24,8 +24,7 @@ use Rattle.records_write.specs.Records.{pool_of}
 use Rattle.unpack_laws.proofs.Reading.{offset_read}
 use Rattle.vtt_lines.specs.Lines.{lines_of}
 use Rattle.vtt_timing.proofs.Grammar.{timing-means}
-use Rattle.vtt_read.specs.declared.FileRead.{FileRead}
-use Rattle.vtt_read.specs.declared.FileRead.TheVariants.{Done, Refused}
+use Rattle.vtt_read.specs.FileRead.{FileRead, Done, Refused}
 use Rattle.vtt_read.specs.Reading.{unmarked, judge_file, file_cues, numbered_from, file_records, file_pool, answer_by, read_room, roomed, read_of}
 use Rattle.vtt_laws.specs.Arrows.{arrow_lines}
 use Rattle.vtt_laws.proofs.Sound.{Sounds, file-sound}
@@ -125,7 +124,7 @@ read-file-is-packed file records pool records_after pool_after n r p c table sam
 
 tells : (u : FileRead) (a b : ℕ) (answer : FileRead) → answer ≡ roomed a b u → Tells u a b answer
 tells (Refused w) a b answer e = e
-tells (Done n r p) a b answer e = ((λ h k. e ∙ rw (le-ltb a r h, le-ltb b p k)), (λ h. e ∙ rw (lt-ltb a r h)), λ h k. e ∙ rw (le-ltb a r h, lt-ltb b p k))
+tells (Ok x) a b answer e = ((λ h k. e ∙ rw (le-ltb a x.records h, le-ltb b x.pool k)), (λ h. e ∙ rw (lt-ltb a x.records h)), λ h k. e ∙ rw (le-ltb a x.records h, lt-ltb b x.pool k))
 
 pub read-room-tells : ReadRoomTells
 unfolding read_of

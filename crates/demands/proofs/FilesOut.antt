@@ -9,13 +9,11 @@ use lib.Dec.{ltb}
 use lib.ListN.{length, take, drop}
 use Rattle.base.specs.Choice.{pick}
 use Rattle.base.proofs.Over.{take-over, drop-over}
-use Rattle.viable.specs.declared.Judged.{Judged}
-use Rattle.viable.specs.declared.Judged.TheVariants.{Right, Bad}
+use Rattle.viable.specs.Judged.{Judged, Right, Bad}
 use Rattle.viable.specs.FirstBad.{judged_by}
 use Rattle.text.specs.Rules.{webvtt, configuration_text}
 use Rattle.text.specs.Beginnings.{configuration_begun}
-use Rattle.verdict.specs.declared.Verdict.{Verdict}
-use Rattle.verdict.specs.declared.Verdict.TheVariants.{Fine, Refused}
+use Rattle.verdict.specs.Verdict.{Verdict, Fine, Refused}
 use Rattle.verdict.specs.Judgement.{fault, text_at}
 use Rattle.times.specs.Times.{tick}
 use Rattle.records.specs.Records.{count}
@@ -23,12 +21,10 @@ use Rattle.cues.specs.Judgement.{judge_list}
 use Rattle.cues.specs.List.{SoundRecord, cues_of}
 use Rattle.cues.proofs.Sound.{fine-sound, sound-fine}
 use Rattle.records_write.specs.Records.{pool_of}
-use Rattle.vtt_read.specs.declared.FileRead.{FileRead}
-use Rattle.vtt_read.specs.declared.FileRead.TheVariants.{Done as ReadDone}
+use Rattle.vtt_read.specs.FileRead.{FileRead, Done as ReadDone}
 use Rattle.vtt_read.specs.Reading.{file_records, file_pool, read_room}
 use Rattle.vtt_laws.proofs.Read.{ReadSo, read-so}
-use Rattle.vtt_write.specs.declared.FileWritten.{FileWritten}
-use Rattle.vtt_write.specs.declared.FileWritten.TheVariants.{Done, NoRoom}
+use Rattle.vtt_write.specs.FileWritten.{FileWritten, Done, NoRoom}
 use Rattle.vtt_write.specs.Writing.{file_bytes, by_both, write_room, lent, written_of}
 use Rattle.vtt_write.proofs.Answers.{room-fine, lent-done}
 use Rattle.vtt_round_trip.specs.Statements.{SameButIds}

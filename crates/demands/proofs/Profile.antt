@@ -8,11 +8,9 @@ use lib.Dec.{eqb, ltb}
 use lib.ListN.{length, take, drop, length-take}
 use borrow.Author.Tests.{lt-ltb, le-ltb, ltb-true, ltb-false}
 use Rattle.base.specs.Choice.{pick}
-use Rattle.viable.specs.declared.Judged.{Judged}
-use Rattle.viable.specs.declared.Judged.TheVariants.{Right, Bad}
+use Rattle.viable.specs.Judged.{Judged, Right, Bad}
 use Rattle.viable.specs.FirstBad.{bytes, FirstBad, Passes, judged_by}
-use Rattle.verdict.specs.declared.Verdict.{Verdict}
-use Rattle.verdict.specs.declared.Verdict.TheVariants.{Fine, Refused}
+use Rattle.verdict.specs.Verdict.{Verdict, Fine, Refused}
 use Rattle.verdict.specs.Judgement.{fault, bad_text}
 use Rattle.text.specs.Rules.{payload_text}
 use Rattle.text.specs.Beginnings.{payload_begun}
@@ -25,7 +23,7 @@ use Rattle.profile.proofs.Theorems.{profile-judged}
 use Rattle.profile_judge.specs.Judgement.{judge_profile}
 use Rattle.profile_stock.proofs.Cues.{stock-cues-within}
 use Rattle.tx3g_stock.specs.declared.Counts.{Counts}
-use Rattle.tx3g_convert.specs.declared.Converted.TheVariants.{Done}
+use Rattle.tx3g_convert.specs.Converted.{Done}
 use Rattle.tx3g_convert.specs.Convert.{stock_cues}
 use Rattle.demands.specs.Calls.{ConvertCall}
 use Rattle.demands.specs.Profile.{Answer, within, long, bad, outside, verdict_of, Means, ProfileAnswers, ConvertedWithin}

@@ -13,12 +13,10 @@ use lib.ListN.{length, drop, get_or, set}
 use Rattle.base.specs.Choice.{pick, both, any_of}
 use Rattle.base.proofs.Choice.{both_left, both_right}
 use Rattle.base.specs.First.{first}
-use Rattle.verdict.specs.declared.Verdict.{Verdict}
-use Rattle.verdict.specs.declared.Verdict.TheVariants.{Fine, Refused}
+use Rattle.verdict.specs.Verdict.{Verdict, Fine, Refused}
 use Rattle.verdict.specs.Judgement.{fault, bad_text, moved, ◌gives◌at◌, text_at, ◌then◌, each}
 use Rattle.verdict.proofs.Judgement.{text-fine}
-use Rattle.viable.specs.declared.Judged.{Judged}
-use Rattle.viable.specs.declared.Judged.TheVariants.{Right, Bad as BadAt}
+use Rattle.viable.specs.Judged.{Judged, Right, Bad as BadAt}
 use Rattle.viable.specs.FirstBad.{FirstBad, Passes, judged_by, JudgedIs}
 use Rattle.fields.specs.BigEndian.{be}
 use Rattle.text.proofs.Rules.{empty-line}
@@ -34,8 +32,7 @@ use Rattle.boxes.specs.declared.Step.{Step}
 use Rattle.boxes.specs.declared.Step.TheVariants.{Box, Refused as Stopped, End}
 use Rattle.boxes.proofs.Laws.{step-box, step-reads}
 use Rattle.boxes.specs.Boxes.{Boxes, clean, broken, box, step_at, stopped_by, on_step, boxes_f, boxes_in, passed, judged, among, times, part}
-use Rattle.bodies.specs.declared.Body.{Body as BoxBody}
-use Rattle.bodies.specs.declared.Body.TheVariants.{At, Refused as NoBody, Nowhere}
+use Rattle.bodies.specs.Body.{Body as BoxBody, At, Refused as NoBody, Nowhere}
 use Rattle.bodies.specs.Bodies.{body_of, filled}
 use Rattle.entry_head.specs.Head.{judge_head}
 use Rattle.wvtt.specs.Sample.{judge_id, judge_text, judge_body, in_cue, end_cue, judge_cue, in_sample, end_counts, end_sample, judge_sample}
@@ -50,8 +47,7 @@ use Rattle.table.specs.Table.{row_count, duration_of, size_of, offset_of, bytes_
 use Rattle.track.specs.Track.{track_of, judge_track}
 use Rattle.timeline.specs.Checking.{Answer, accepted, wrong, short, check}
 use Rattle.conform.specs.Conformance.{answered, track_verdict, of_track, unless_list, checked}
-use Rattle.pack.specs.declared.Packed.{Packed}
-use Rattle.pack.specs.declared.Packed.TheVariants.{Done, Refused as NotPacked}
+use Rattle.pack.specs.Packed.{Packed, Done, Refused as NotPacked}
 use Rattle.pack.specs.Packing.{packed_track, table_bytes, samples_bytes, sizes_of, unless_faulty, pack_room, roomed, packed_of}
 use Rattle.signed.specs.Signed.{ordered}
 use Rattle.tx3g_contents.specs.Kinds.{styl, krok, tbox, twrp, ranged, known as known_kind, single as single_kind}
@@ -59,44 +55,38 @@ use Rattle.tx3g_contents.specs.Contents.{content_end}
 use Rattle.tx3g_fonts.specs.Fonts.{font_at, font_id, font_among, has_font, fresh_font, judge_fonts}
 use Rattle.tx3g_entry.specs.Entry.{tx3g, ftab, justified_entry, plain_entry, judge_fixed, nothing_more, fonts_of, in_entry as in_tx3g_entry, end_entry as end_tx3g_entry, judge_entry as judge_tx3g_entry, entry_boxes}
 use Rattle.tx3g_rules.specs.Rules.{in_range, style_at, end_before, turn_at, time_before, style_fault, judge_style, turn_fault, judge_turn, box_fault, wrap_fault, range_fault, judge_records, judge_body as judge_modifier}
-use Rattle.tx3g_sample.specs.declared.Reading.{Reading}
-use Rattle.tx3g_sample.specs.declared.Reading.TheVariants.{Good, BadEntry, BadSample}
+use Rattle.tx3g_sample.specs.Reading.{Reading, Good, BadEntry, BadSample}
 use Rattle.tx3g_sample.specs.Sample.{text_end, counted, counted_at, characters_in, fonts_in, judge_text as judge_tx3g_text, in_sample as in_tx3g_sample, modifiers_of, judge_modifiers, judge_sample as judge_tx3g_sample, answer_of, read_sample, verdict_of}
 use Rattle.records_write.specs.Records.{records_of, pool_of}
-use Rattle.unpack.specs.declared.Unpacked.{Unpacked}
-use Rattle.unpack.specs.declared.Unpacked.TheVariants.{Done as Unpacks, Refused as NotUnpacked}
+use Rattle.unpack.specs.Unpacked.{Unpacked, Done as Unpacks, Refused as NotUnpacked}
 use Rattle.unpack.specs.Unpacking.{track_cues, track_ms, bad_times, judge_times, judge_end, judge_unpack, stops_at, answer_by, done_with, unpack_room, roomed as roomed_list, unpack_of}
 use Rattle.vtt_lines.specs.Lines.{lines_of, joined, filled as filled_lines}
 use Rattle.vtt_timing.proofs.Grammar.{timing-means}
-use Rattle.vtt_read.specs.declared.FileRead.{FileRead}
-use Rattle.vtt_read.specs.declared.FileRead.TheVariants.{Done as Reads, Refused as NotRead}
+use Rattle.vtt_read.specs.FileRead.{FileRead, Done as Reads, Refused as NotRead}
 use Rattle.vtt_read.specs.Reading.{unmarked, judge_file, file_cues, file_records, file_pool, answer_by as file_by, read_room, roomed as roomed_file, read_of}
-use Rattle.vtt_write.specs.declared.FileWritten.TheVariants.{Done as FileDone, NoRoom}
+use Rattle.vtt_write.specs.FileWritten.{Done as FileDone, NoRoom}
 use Rattle.vtt_write.specs.Writing.{file_bytes, by_both, write_room, lent as lent_file, written_of as file_written}
 use Rattle.vtt_laws.proofs.Refused.{numbers, refused_why}
-use Rattle.tx3g_modifiers.specs.declared.Held.TheVariants.{One}
+use Rattle.tx3g_modifiers.specs.Held.{One}
 use Rattle.tx3g_modifiers.specs.Modifiers.{whole, modifier_of, next_modifier}
-use Rattle.tx3g_style.specs.declared.Styled.TheVariants.{BadSample as SampleOf}
+use Rattle.tx3g_style.specs.Styled.{BadSample as SampleOf}
 use Rattle.tx3g_style.specs.Style.{in_force, styles_of, styled_by, style_of, fault_of}
-use Rattle.wvtt_entry_write.specs.declared.Written.TheVariants.{Done as WrittenDone, Refused as NotWritten}
+use Rattle.wvtt_entry_write.specs.Written.{Done as WrittenDone, Refused as NotWritten}
 use Rattle.wvtt_entry_write.specs.Writing.{entry_size, judge_label, judge_texts as judge_entry_texts, judge_written, unless_faulty as unless_written, room_of, lent, written_of}
 use Rattle.tx3g_box.specs.TextBox.{boxes_of, spot_in, spot_by, spot_of}
 use Rattle.table.specs.Parts.{table_of, content_of}
-use Rattle.table_lasting.specs.declared.Dropped.{Dropped}
-use Rattle.table_lasting.specs.declared.Dropped.TheVariants.{Done as Drops, Refused as NotDropped}
+use Rattle.table_lasting.specs.Dropped.{Dropped, Done as Drops, Refused as NotDropped}
 use Rattle.table_lasting.specs.Lasting.{lasting_of}
 use Rattle.table_lasting.specs.Dropping.{judge_drop, sizes_of as sizes_of_parts, unless_faulty as unless_dropped, drop_room, roomed as roomed_parts, drop_of}
 use Rattle.tx3g_payload_write.specs.Sample.{payload_in}
 use Rattle.tx3g_stock.specs.Stock.{counts_of, judge_stock}
-use Rattle.tx3g_convert.specs.declared.Converted.{Converted}
-use Rattle.tx3g_convert.specs.declared.Converted.TheVariants.{NoRoom as NoRoomLeft}
+use Rattle.tx3g_convert.specs.Converted.{Converted, NoRoom as NoRoomLeft}
 use Rattle.tx3g_convert.specs.Convert.{Told, told_of, has_text, counting, stock_cues, stock_ms, judge_told, judge_tolds, judge_cues, by_entry, by_track, done_with as done_conversion, convert_room, roomed as roomed_stock, convert_of}
 use Rattle.tx3g_convert_laws.proofs.Samples.{no_told, length-told, told_at_lem}
 use Rattle.profile.specs.Machine.{judge}
 use Rattle.profile_judge.specs.Judgement.{outside, judge_profile}
 use Rattle.demands.specs.Offsets.{body_at, Inside, InSample, InEntry, InWritten, InConfiguration, InPayload, InSettings, InTexts, InRecord, InFile, InTrack, InText, InTx3g, InStock, Never}
-use Rattle.settings.specs.declared.Read.{Read}
-use Rattle.settings.specs.declared.Read.TheVariants.{Done as SettingsRead, Refused as NoSettings}
+use Rattle.settings.specs.Read.{Read, Done as SettingsRead, Refused as NoSettings}
 use Rattle.settings.specs.Reading.{words, read_words, unread, unless_faulty as unless_bad, read_settings}
 use Rattle.settings.specs.Form.{written, writable}
 use Rattle.settings.proofs.Readings.{refused-only}

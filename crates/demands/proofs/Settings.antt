@@ -10,19 +10,16 @@ use borrow.Author.Tests.{lt-ltb, le-ltb, ltb-true, ltb-false}
 use Rattle.base.specs.Choice.{pick}
 use Rattle.base.proofs.Choice.{by-test, either, both_left, both_right}
 use Rattle.base.proofs.Over.{take-over, drop-over}
-use Rattle.viable.specs.declared.Judged.{Judged}
-use Rattle.viable.specs.declared.Judged.TheVariants.{Right, Bad}
+use Rattle.viable.specs.Judged.{Judged, Right, Bad}
 use Rattle.viable.specs.FirstBad.{Passes, judged_by}
 use Rattle.verdict.specs.Judgement.{fault, bad_text}
 use Rattle.text.specs.Rules.{identifier_text}
 use Rattle.text.specs.Beginnings.{identifier_begun}
 use Rattle.timestamps.specs.Timestamps.{front}
-use Rattle.wvtt_entry_write.specs.declared.Written.{Written}
-use Rattle.wvtt_entry_write.specs.declared.Written.TheVariants.{Done as Writes, Refused as NotWritten}
+use Rattle.wvtt_entry_write.specs.Written.{Written, Done as Writes, Refused as NotWritten}
 use Rattle.settings.specs.declared.Settings.{Settings}
 use Rattle.settings.specs.declared.Reading.{Reading}
-use Rattle.settings.specs.declared.Read.{Read}
-use Rattle.settings.specs.declared.Read.TheVariants.{Done, Refused}
+use Rattle.settings.specs.Read.{Read, Done, Refused}
 use Rattle.settings.specs.Grammar.{named}
 use Rattle.settings.specs.Reading.{words, read_words, unread, read_settings, said}
 use Rattle.settings.specs.Form.{written, settings_allowed, region_allowed, writable}

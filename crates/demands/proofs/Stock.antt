@@ -1,4 +1,5 @@
 -- Proofs of the demands on converting, and on dropping samples of duration 0.
+use Rattle.std.proofs.Common.{Ok}
 use Prim.Native.Nat.{ℕ, ◌≤◌, ◌<◌}
 use mathlib.Core.Path.{◌≡◌, sym, ap, ap₂, ◌∙◌, subst}
 use mathlib.Core.Bool.{Bool, true, false}
@@ -22,8 +23,7 @@ use Rattle.unpack_laws.proofs.Reading.{Fits, length-recs, count-recs, id-read, s
 use Rattle.table.specs.Table.{row_count, bytes_of}
 use Rattle.table.specs.Parts.{Part, table_of, content_of}
 use Rattle.table.proofs.Parts.{length-table}
-use Rattle.table_lasting.specs.declared.Dropped.{Dropped}
-use Rattle.table_lasting.specs.declared.Dropped.TheVariants.{Done as Kept, Refused as NotDropped}
+use Rattle.table_lasting.specs.Dropped.{Dropped, Done as Kept, Refused as NotDropped}
 use Rattle.table_lasting.specs.Lasting.{lasting_of, track_by}
 use Rattle.table_lasting.specs.Dropping.{drop_room, roomed as roomed_table, drop_of}
 use Rattle.table_lasting.proofs.Answers.{DoneMeans, done-means}
@@ -33,8 +33,7 @@ use Rattle.tx3g_payload.specs.Statements.{untagged, unescaped}
 use Rattle.tx3g_payload.proofs.Back.{text-comes-back, empty-is}
 use Rattle.tx3g_payload_write.specs.Sample.{characters_at, range_at, face_of, payload_in}
 use Rattle.tx3g_stock.specs.declared.Counts.{Counts}
-use Rattle.tx3g_convert.specs.declared.Converted.{Converted}
-use Rattle.tx3g_convert.specs.declared.Converted.TheVariants.{Done, BadEntry, BadTrack, NoRoom}
+use Rattle.tx3g_convert.specs.Converted.{Converted, Done, BadEntry, BadTrack, NoRoom}
 use Rattle.tx3g_convert.specs.Convert.{stock_cues, stock_ms, convert_room, roomed, convert_of}
 use Rattle.tx3g_convert.proofs.Rooms.{DoneSo, done-so}
 use Rattle.tx3g_convert_laws.specs.Statements.{CuesAre}
@@ -52,9 +51,9 @@ done-apart q n r p t c k = let z : ◌≡◌ {A = ℕ} 0 1 = cc in absurd (omega
 
 -- where there is room, the answer is that of the room
 room-done : (a b : ℕ) (x : Converted) (n r p t : ℕ) (c : Counts) → roomed a b x ≡ Done n r p t c → x ≡ Done n r p t c
-room-done a b (Done n₁ r₁ p₁ t₁ c₁) n r p t c e = by (ltb a r₁) (ltb b p₁) e
+room-done a b (Ok z) n r p t c e = by (ltb a z.records) (ltb b z.pool) e
   where
-    by : (x y : Bool) → pick x (NoRoom (fault 15 0)) (pick y (NoRoom (fault 15 1)) (Done n₁ r₁ p₁ t₁ c₁)) ≡ Done n r p t c → Done n₁ r₁ p₁ t₁ c₁ ≡ Done n r p t c
+    by : (x y : Bool) → pick x (NoRoom (fault 15 0)) (pick y (NoRoom (fault 15 1)) (Done z.cues z.records z.pool z.t z.dropped)) ≡ Done n r p t c → Done z.cues z.records z.pool z.t z.dropped ≡ Done n r p t c
     by true y k = done-apart (fault 15 0) n r p t c k
     by false true k = done-apart (fault 15 1) n r p t c k
     by false false k = k
@@ -152,7 +151,7 @@ converted-is-fine scale entry table samples records pool records_after pool_afte
     (ap₂ (judge_list scale T) a b ∙ w.0, λ other l h. ap₂ (judge_list other T) a b ∙ w.1 other l h)
 
 convert-tells : (u : Converted) (a b : ℕ) (answer : Converted) → answer ≡ roomed a b u → ConvertTells u a b answer
-convert-tells (Done n r p t c) a b answer e = ((λ h k. e ∙ rw (le-ltb a r h, le-ltb b p k)), (λ h. e ∙ rw (lt-ltb a r h)), λ h k. e ∙ rw (le-ltb a r h, lt-ltb b p k))
+convert-tells (Ok x) a b answer e = ((λ h k. e ∙ rw (le-ltb a x.records h, le-ltb b x.pool k)), (λ h. e ∙ rw (lt-ltb a x.records h)), λ h k. e ∙ rw (le-ltb a x.records h, lt-ltb b x.pool k))
 convert-tells (BadEntry q) a b answer e = e
 convert-tells (BadTrack q) a b answer e = e
 convert-tells (NoRoom q) a b answer e = e
@@ -162,7 +161,7 @@ unfolding convert_of
 convert-room-tells scale entry table samples records pool records_after pool_after answer call = convert-tells (convert_room scale entry table samples) (length records) (length pool) answer call.answers
 
 pub refused-convert-keeps : RefusedConvertKeeps
-refused-convert-keeps scale entry table samples records pool records_after pool_after (Done n r p t c) call = tt
+refused-convert-keeps scale entry table samples records pool records_after pool_after (Ok x) call = tt
 refused-convert-keeps scale entry table samples records pool records_after pool_after (BadEntry q) call = (call.records_hold, call.pool_holds)
 refused-convert-keeps scale entry table samples records pool records_after pool_after (BadTrack q) call = (call.records_hold, call.pool_holds)
 refused-convert-keeps scale entry table samples records pool records_after pool_after (NoRoom q) call = (call.records_hold, call.pool_holds)
@@ -211,7 +210,7 @@ drop-changes-nothing table samples rows content rows_after content_after n t b b
 
 drop-tells : (u : Dropped) (x y : ℕ) (answer : Dropped) → answer ≡ roomed_table x y u → DropTells u x y answer
 drop-tells (NotDropped r) x y answer e = e
-drop-tells (Kept n t b) x y answer e = ((λ h k. e ∙ rw (le-ltb x t h, le-ltb y b k)), (λ h. e ∙ rw (lt-ltb x t h)), λ h k. e ∙ rw (le-ltb x t h, lt-ltb y b k))
+drop-tells (Ok z) x y answer e = ((λ h k. e ∙ rw (le-ltb x z.table h, le-ltb y z.bytes k)), (λ h. e ∙ rw (lt-ltb x z.table h)), λ h k. e ∙ rw (le-ltb x z.table h, lt-ltb y z.bytes k))
 
 pub drop-room-tells : DropRoomTells
 unfolding drop_of

@@ -1,4 +1,5 @@
 -- Proofs of the demands on unpacking.
+use Rattle.std.proofs.Common.{Ok}
 use Prim.Native.Nat.{ℕ, zero, suc, ◌+◌, ◌/◌, ◌<◌, ◌≤◌}
 use mathlib.Core.Path.{◌≡◌, refl, sym, ap, ap₂, ◌∙◌, subst}
 use mathlib.Core.List.{List, ◌++◌}
@@ -6,7 +7,7 @@ use mathlib.Core.Option.{some}
 use native.Mathlib.Omega.{arith}
 use lib.ListN.{length, take, drop, get_or, length-append}
 use Rattle.base.proofs.Over.{take-over, drop-over}
-use Rattle.verdict.specs.declared.Verdict.TheVariants.{Fine}
+use Rattle.verdict.specs.Verdict.{Fine}
 use borrow.Author.Tests.{lt-ltb, le-ltb, lt-leb}
 use Rattle.verdict.proofs.Judgement.{each_all}
 use Rattle.times.specs.Times.{back}
@@ -25,8 +26,7 @@ use Rattle.track.proofs.Samples.{track-positive, positive-rows}
 use Rattle.conform.specs.Conformance.{conformance}
 use Rattle.conform.proofs.Blame.{passes}
 use Rattle.records_write.specs.Records.{id_of, texts_of, pool_to, records_of, pool_of}
-use Rattle.unpack.specs.declared.Unpacked.{Unpacked}
-use Rattle.unpack.specs.declared.Unpacked.TheVariants.{Done, Refused}
+use Rattle.unpack.specs.Unpacked.{Unpacked, Done, Refused}
 use Rattle.unpack.specs.Unpacking.{track_cues, track_ms, bad_times, judge_times, judge_end, done_with, unpack_room, roomed, unpack_of}
 use Rattle.unpack.proofs.Laws.{list_done}
 use Rattle.unpack_laws.proofs.Reading.{Fits, length-recs, count-recs, id-read, start-read, end_read, offset_read, identifier-read, settings-read, payload-read, identifier_is, settings_is, payload_is}
@@ -134,7 +134,7 @@ unpacking-is-done scale table samples records pool records_after pool_after answ
 
 tells : (u : Unpacked) (a b : ℕ) (answer : Unpacked) → answer ≡ roomed a b u → Tells u a b answer
 tells (Refused r) a b answer e = e
-tells (Done n p t) a b answer e = ((λ h k. e ∙ rw (le-ltb a n h, le-ltb b p k)), (λ h. e ∙ rw (lt-ltb a n h)), λ h k. e ∙ rw (le-ltb a n h, lt-ltb b p k))
+tells (Ok x) a b answer e = ((λ h k. e ∙ rw (le-ltb a x.records h, le-ltb b x.pool k)), (λ h. e ∙ rw (lt-ltb a x.records h)), λ h k. e ∙ rw (le-ltb a x.records h, lt-ltb b x.pool k))
 
 pub unpack-room-tells : UnpackRoomTells
 unfolding unpack_of

@@ -1,24 +1,24 @@
 -- Calls of the operations: what they were lent, what they answered, and what their outputs hold afterwards. Each record is the contract of its function;
 -- src/lib.rt has it proved of the function itself. The demands below are about every call.
 use Rattle.std.specs.Prelude.{ℕ, ◌≡◌, List, length}
-use Rattle.pack.specs.declared.Packed.{Packed}
+use Rattle.pack.specs.Packed.{Packed}
 use Rattle.pack.specs.Packing.{packed_track, table_bytes, samples_bytes, packed_of, after}
-use Rattle.conform.specs.declared.Checked.{Checked}
+use Rattle.conform.specs.Checked.{Checked}
 use Rattle.conform.specs.Conformance.{checked}
 use Rattle.records_write.specs.Records.{records_of, pool_of}
-use Rattle.unpack.specs.declared.Unpacked.{Unpacked}
+use Rattle.unpack.specs.Unpacked.{Unpacked}
 use Rattle.unpack.specs.Unpacking.{track_cues, unpack_of, out_of}
 use Rattle.table.specs.Parts.{table_of, content_of}
-use Rattle.table_lasting.specs.declared.Dropped.{Dropped}
+use Rattle.table_lasting.specs.Dropped.{Dropped}
 use Rattle.table_lasting.specs.Lasting.{lasting_of}
 use Rattle.table_lasting.specs.Dropping.{drop_of, out_of as drop_out}
-use Rattle.tx3g_convert.specs.declared.Converted.{Converted}
+use Rattle.tx3g_convert.specs.Converted.{Converted}
 use Rattle.tx3g_convert.specs.Convert.{stock_cues, convert_of, out_of as convert_out}
-use Rattle.vtt_read.specs.declared.FileRead.{FileRead}
+use Rattle.vtt_read.specs.FileRead.{FileRead}
 use Rattle.vtt_read.specs.Reading.{file_records, file_pool, read_of, out_of as file_out}
-use Rattle.vtt_write.specs.declared.FileWritten.{FileWritten}
+use Rattle.vtt_write.specs.FileWritten.{FileWritten}
 use Rattle.vtt_write.specs.Writing.{file_bytes, written_of, after as file_after}
-use Rattle.wvtt_entry_write.specs.declared.Written.{Written}
+use Rattle.wvtt_entry_write.specs.Written.{Written}
 use Rattle.wvtt_entry_write.specs.Writing.{after as entry_after}
 use Rattle.settings.specs.declared.Settings.{Settings}
 use Rattle.settings.specs.Form.{written}

@@ -1,26 +1,22 @@
 -- The cases of document 01 that are proved, and some of document 02, in one table with a single statement.
+use Rattle.std.specs.Prelude.{Ok}
 use Rattle.std.specs.Prelude.{ℕ, ◌+◌, ◌≡◌, true, List, [], ◌∷◌, ◌++◌, map, length, take}
 use Rattle.std.proofs.Math.Option.{Option, none, some}
 use Rattle.fields.specs.BigEndian.{bytes}
-use Rattle.characters.specs.declared.Counted.{Counted}
-use Rattle.characters.specs.declared.Counted.TheVariants.{Characters, Bad}
+use Rattle.characters.specs.Counted.{Counted, Characters, Bad}
 use Rattle.characters.specs.Characters.{characters_of}
 use Rattle.timeline.specs.Cues.{Body}
 use Rattle.timeline.specs.Tracks.{Sample}
 use Rattle.timeline.specs.Lists.{listed}
 use Rattle.records.specs.Records.{count, start_ms, end_ms}
-use Rattle.pack.specs.declared.Packed.{Packed}
-use Rattle.pack.specs.declared.Packed.TheVariants.{Done, Refused}
+use Rattle.pack.specs.Packed.{Packed, Done, Refused}
 use Rattle.pack.specs.Packing.{packed_track, table_bytes, samples_bytes, packed_of}
 use Rattle.records_write.specs.Records.{records_of}
-use Rattle.unpack.specs.declared.Unpacked.{Unpacked}
-use Rattle.unpack.specs.declared.Unpacked.TheVariants.{Done as DoneList, Refused as RefusedTrack}
+use Rattle.unpack.specs.Unpacked.{Unpacked, Done as DoneList, Refused as RefusedTrack}
 use Rattle.unpack.specs.Unpacking.{track_cues, unpack_of}
-use Rattle.vtt_read.specs.declared.FileRead.{FileRead}
-use Rattle.vtt_read.specs.declared.FileRead.TheVariants.{Done as DoneFile, Refused as RefusedFile}
+use Rattle.vtt_read.specs.FileRead.{FileRead, Done as DoneFile, Refused as RefusedFile}
 use Rattle.vtt_read.specs.Reading.{file_records, file_pool, read_of}
-use Rattle.vtt_write.specs.declared.FileWritten.{FileWritten}
-use Rattle.vtt_write.specs.declared.FileWritten.TheVariants.{Done as DoneOut, BadConfiguration, BadList, NoRoom}
+use Rattle.vtt_write.specs.FileWritten.{FileWritten, Done as DoneOut, BadConfiguration, BadList, NoRoom}
 use Rattle.vtt_write.specs.Writing.{file_bytes, written_of}
 use Rattle.input.specs.Line.{line_of}
 use Rattle.report.specs.Report.{answer_text}
@@ -72,12 +68,12 @@ times_of recs T = listed (start_ms recs) (count recs) ∷ listed (end_ms recs) (
 
 -- packing's answer, with what it has written
 abbrev pub if_packed : Packed → List (List ℕ) → List (List ℕ)
-if_packed (Done n t b) a = a
+if_packed (Ok x) a = a
 if_packed (Refused r) a = (r.number ∷ r.place ∷ []) ∷ []
 
 -- unpacking's answer, with what it has written
 abbrev pub if_unpacked : Unpacked → List ℕ → List (List ℕ)
-if_unpacked (DoneList n p T) recs = times_of recs T
+if_unpacked (Ok x) recs = times_of recs x.t
 if_unpacked (RefusedTrack r) recs = (r.number ∷ r.place ∷ []) ∷ []
 
 abbrev pub if_counted : Counted → List (List ℕ)
@@ -86,7 +82,7 @@ if_counted (Bad q) = []
 
 -- reading's answer, with what it has written
 abbrev pub if_read : FileRead → List (List ℕ) → List (List ℕ)
-if_read (DoneFile n r p) a = a
+if_read (Ok x) a = a
 if_read (RefusedFile w) a = (w.number ∷ w.place ∷ []) ∷ []
 
 -- writing's answer, with what it has written

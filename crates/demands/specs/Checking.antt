@@ -2,7 +2,7 @@
 use Rattle.std.specs.Prelude.{ℕ, ◌≤◌, ◌<◌, ◌≡◌, ◌↔◌, List, take}
 use Rattle.std.proofs.Math.Option.{some}
 use Rattle.verdict.specs.declared.Refusal.{Refusal}
-use Rattle.verdict.specs.declared.Verdict.TheVariants.{Fine, Refused}
+use Rattle.verdict.specs.Verdict.{Fine, Refused}
 use Rattle.verdict.specs.Judgement.{fault}
 use Rattle.times.specs.Times.{tick}
 use Rattle.timeline.specs.Cues.{running_at}
@@ -13,9 +13,8 @@ use Rattle.cues.specs.Judgement.{judge_list}
 use Rattle.cues.specs.List.{cues_of}
 use Rattle.table.specs.Table.{row_count, duration_of}
 use Rattle.track.specs.Track.{track_of, judge_track, Readable}
-use Rattle.pack.specs.declared.Packed.TheVariants.{Done}
-use Rattle.conform.specs.declared.Checked.{Checked}
-use Rattle.conform.specs.declared.Checked.TheVariants.{Passed, BadList, BadTrack}
+use Rattle.pack.specs.Packed.{Done}
+use Rattle.conform.specs.Checked.{Checked, Passed, BadList, BadTrack}
 use Rattle.demands.specs.Calls.{PackCall, CheckCall}
 
 -- the track is readable, its durations are positive and sum to T's tick, and at every tick below that the sample there holds exactly the cues that run, in list order,

@@ -1,24 +1,22 @@
 -- Document 02, K1: reading a WebVTT file. What a call has written can be packed and checked, its cues are lines of the file, and a refusal names a line.
+use Rattle.std.specs.Prelude.{Ok}
 use Rattle.std.specs.Prelude.{ℕ, suc, ◌*◌, ◌-◌, ◌≤◌, ◌<◌, max, ◌≡◌, ◌≢◌, length, take, drop, get_or}
 use mathlib.Core.List.{List, [], ◌∷◌, Memᴰ}
 use Rattle.verdict.specs.declared.Refusal.{Refusal}
-use Rattle.verdict.specs.declared.Verdict.TheVariants.{Fine}
+use Rattle.verdict.specs.Verdict.{Fine}
 use Rattle.verdict.specs.Judgement.{fault}
 use Rattle.times.specs.Times.{tick}
 use Rattle.timeline.specs.Packing.{packed}
 use Rattle.records.specs.Records.{count, source_id, start_ms, end_ms, text_offset, identifier_of, settings_of, payload_of}
 use Rattle.cues.specs.Judgement.{judge_list}
 use Rattle.cues.specs.List.{cues_of}
-use Rattle.pack.specs.declared.Packed.{Packed}
-use Rattle.pack.specs.declared.Packed.TheVariants.{Done as PackDone}
+use Rattle.pack.specs.Packed.{Packed, Done as PackDone}
 use Rattle.pack.specs.Packing.{table_bytes, samples_bytes}
-use Rattle.conform.specs.declared.Checked.{Checked}
-use Rattle.conform.specs.declared.Checked.TheVariants.{Passed}
+use Rattle.conform.specs.Checked.{Checked, Passed}
 use Rattle.vtt_lines.specs.Lines.{lines_of, joined, filled}
 use Rattle.vtt_timing.specs.Timing.{Timing}
 use Rattle.vtt_timing.specs.Grammar.{TimingLine}
-use Rattle.vtt_read.specs.declared.FileRead.{FileRead}
-use Rattle.vtt_read.specs.declared.FileRead.TheVariants.{Done, Refused}
+use Rattle.vtt_read.specs.FileRead.{FileRead, Done, Refused}
 use Rattle.vtt_read.specs.Reading.{unmarked, read_room}
 use Rattle.vtt_laws.specs.Arrows.{arrow_lines}
 use Rattle.demands.specs.Calls.{PackCall, CheckCall, ReadCall}
@@ -79,7 +77,7 @@ ReadFileIsPacked =
 
 -- what the room says of an answer where a and b bytes are lent: lengths that fit are the answer, others are 15; a refusal is the answer
 abbrev pub Tells : FileRead → ℕ → ℕ → FileRead → Type 0
-Tells (Done n r p) a b answer = (r ≤ a → p ≤ b → answer ≡ Done n r p) × (a < r → answer ≡ Refused (fault 15 0)) × (r ≤ a → b < p → answer ≡ Refused (fault 15 1))
+Tells (Ok x) a b answer = (x.records ≤ a → x.pool ≤ b → answer ≡ Done x.cues x.records x.pool) × (a < x.records → answer ≡ Refused (fault 15 0)) × (x.records ≤ a → b < x.pool → answer ≡ Refused (fault 15 1))
 Tells (Refused w) a b answer = answer ≡ Refused w
 
 abbrev pub ReadRoomTells : Type 0

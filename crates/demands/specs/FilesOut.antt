@@ -2,15 +2,13 @@
 use Rattle.std.specs.Prelude.{ℕ, ◌<◌, ◌≤◌, ◌≡◌, List, length, take, drop}
 use Rattle.viable.specs.FirstBad.{FirstBad, Passes}
 use Rattle.text.specs.Rules.{webvtt, configuration_text}
-use Rattle.verdict.specs.declared.Verdict.TheVariants.{Fine, Refused}
+use Rattle.verdict.specs.Verdict.{Fine, Refused}
 use Rattle.verdict.specs.Judgement.{fault, bad_text}
 use Rattle.records.specs.Records.{count}
 use Rattle.cues.specs.Judgement.{judge_list}
 use Rattle.cues.specs.List.{captions_of}
-use Rattle.vtt_read.specs.declared.FileRead.{FileRead}
-use Rattle.vtt_read.specs.declared.FileRead.TheVariants.{Done as ReadDone}
-use Rattle.vtt_write.specs.declared.FileWritten.{FileWritten}
-use Rattle.vtt_write.specs.declared.FileWritten.TheVariants.{Done, BadConfiguration, BadList, NoRoom}
+use Rattle.vtt_read.specs.FileRead.{FileRead, Done as ReadDone}
+use Rattle.vtt_write.specs.FileWritten.{FileWritten, Done, BadConfiguration, BadList, NoRoom}
 use Rattle.vtt_write.specs.Writing.{file_bytes, write_room}
 use Rattle.vtt_round_trip.specs.Premises.{Premises}
 use Rattle.vtt_round_trip.specs.Statements.{SameButIds, EmptyLineLost, ArrowLost, FirstLineLost, PayloadLost, SettingsBeginLost, SettingsEndLost}

@@ -1,7 +1,8 @@
 -- Demand 2 for packing: what is written is exactly the track that document 01 defines, each time rounded once from its full value; and nothing else is touched.
+use Rattle.std.specs.Prelude.{Ok}
 use Rattle.std.specs.Prelude.{ℕ, ◌+◌, ◌*◌, ◌≤◌, ◌<◌, ◌≡◌, List, length, take, drop}
 use Rattle.verdict.specs.declared.Refusal.{Refusal}
-use Rattle.verdict.specs.declared.Verdict.TheVariants.{Fine}
+use Rattle.verdict.specs.Verdict.{Fine}
 use Rattle.verdict.specs.Judgement.{fault}
 use Rattle.times.specs.Times.{tick}
 use Rattle.timeline.specs.Tracks.{Right}
@@ -11,8 +12,7 @@ use Rattle.cues.specs.Judgement.{judge_list}
 use Rattle.cues.specs.List.{cues_of}
 use Rattle.table.specs.Table.{row_count}
 use Rattle.track.specs.Track.{track_of, Readable}
-use Rattle.pack.specs.declared.Packed.{Packed}
-use Rattle.pack.specs.declared.Packed.TheVariants.{Done, Refused}
+use Rattle.pack.specs.Packed.{Packed, Done, Refused}
 use Rattle.pack.specs.Packing.{table_bytes, samples_bytes, pack_room}
 use Rattle.demands.specs.Calls.{PackCall}
 
@@ -59,7 +59,7 @@ PackingIsDone =
 
 -- what the room says of an answer where a and c bytes are lent: lengths that fit are the answer, others are 15; a refusal is the answer
 abbrev pub Tells : Packed → ℕ → ℕ → Packed → Type 0
-Tells (Done n t b) a c answer = (t ≤ a → b ≤ c → answer ≡ Done n t b) × (a < t → answer ≡ Refused (fault 15 0)) × (t ≤ a → c < b → answer ≡ Refused (fault 15 1))
+Tells (Ok x) a c answer = (x.table ≤ a → x.bytes ≤ c → answer ≡ Done x.samples x.table x.bytes) × (a < x.table → answer ≡ Refused (fault 15 0)) × (x.table ≤ a → c < x.bytes → answer ≡ Refused (fault 15 1))
 Tells (Refused r) a c answer = answer ≡ Refused r
 
 abbrev pub PackRoomTells : Type 0

@@ -2,15 +2,14 @@
 -- that the payloads made from 3GPP text are in the profile.
 use Rattle.std.specs.Prelude.{ℕ, ◌≤◌, ◌<◌, ◌≡◌, ◌↔◌, true, List, length, take}
 use Rattle.viable.specs.FirstBad.{bytes, FirstBad, Passes}
-use Rattle.verdict.specs.declared.Verdict.{Verdict}
-use Rattle.verdict.specs.declared.Verdict.TheVariants.{Fine, Refused}
+use Rattle.verdict.specs.Verdict.{Verdict, Fine, Refused}
 use Rattle.verdict.specs.Judgement.{refuse, bad_text}
 use Rattle.text.specs.Rules.{payload_text}
 use Rattle.records.specs.Records.{payload_of}
 use Rattle.profile.specs.Grammar.{Profile}
 use Rattle.profile_judge.specs.Judgement.{judge_profile}
 use Rattle.tx3g_stock.specs.declared.Counts.{Counts}
-use Rattle.tx3g_convert.specs.declared.Converted.TheVariants.{Done}
+use Rattle.tx3g_convert.specs.Converted.{Done}
 use Rattle.demands.specs.Calls.{ConvertCall}
 
 -- the answers: yes; too long; bad text at q; outside the profile at q

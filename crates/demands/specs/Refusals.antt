@@ -1,56 +1,44 @@
 -- Demand 1: a refusal's number is never 0 and stands in document 01's table; its second place is 0 beside every number but 6, and beside 6 it names the first bad byte of the
 -- text that its place names; whatever was given.
+use Rattle.std.specs.Prelude.{Ok}
 use Rattle.std.specs.Prelude.{ℕ, ◌≤◌, ◌≡◌, ◌≢◌, ◌⊎◌, List, length}
 use Rattle.std.proofs.Math.Option.{Option}
-use Rattle.verdict.specs.declared.Verdict.{Verdict}
-use Rattle.verdict.specs.declared.Verdict.TheVariants.{Fine, Refused}
+use Rattle.verdict.specs.Verdict.{Verdict, Fine, Refused}
 use Rattle.characters.specs.Characters.{characters_of}
 use Rattle.boxes.specs.Boxes.{stopped_by, step_at, boxes_in}
 use Rattle.profile_judge.specs.Judgement.{judge_profile}
-use Rattle.settings.specs.declared.Read.{Read}
-use Rattle.settings.specs.declared.Read.TheVariants.{Done as SettingsRead, Refused as NoSettings}
+use Rattle.settings.specs.Read.{Read, Done as SettingsRead, Refused as NoSettings}
 use Rattle.settings.specs.Reading.{read_settings}
 use Rattle.settings_flat.specs.declared.CaptionsSettings.{CaptionsSettings}
 use Rattle.settings_flat.specs.Flat.{given_written}
 use Rattle.wvtt.specs.Sample.{judge_sample}
-use Rattle.wvtt_cues.specs.declared.Held.{Held as Cue}
-use Rattle.wvtt_cues.specs.declared.Held.TheVariants.{Cue as HeldCue, Refused as NoCue, End as NoMoreCues}
+use Rattle.wvtt_cues.specs.Held.{Held as Cue, Cue as HeldCue, Refused as NoCue, End as NoMoreCues}
 use Rattle.wvtt_cues.specs.Cues.{next_cue}
 use Rattle.wvtt_entry.specs.Entry.{judge_entry}
-use Rattle.wvtt_entry_write.specs.declared.Written.{Written}
-use Rattle.wvtt_entry_write.specs.declared.Written.TheVariants.{Done as WrittenDone, Refused as NotWritten}
+use Rattle.wvtt_entry_write.specs.Written.{Written, Done as WrittenDone, Refused as NotWritten}
 use Rattle.wvtt_entry_write.specs.Writing.{written_of}
 use Rattle.cues.specs.Judgement.{judge_list}
 use Rattle.track.specs.Track.{judge_track}
-use Rattle.conform.specs.declared.Checked.{Checked}
-use Rattle.conform.specs.declared.Checked.TheVariants.{Passed, BadList, BadTrack}
+use Rattle.conform.specs.Checked.{Checked, Passed, BadList, BadTrack}
 use Rattle.conform.specs.Conformance.{checked}
-use Rattle.pack.specs.declared.Packed.{Packed}
-use Rattle.pack.specs.declared.Packed.TheVariants.{Done, Refused as NotPacked}
+use Rattle.pack.specs.Packed.{Packed, Done, Refused as NotPacked}
 use Rattle.pack.specs.Packing.{packed_of}
-use Rattle.unpack.specs.declared.Unpacked.{Unpacked}
-use Rattle.unpack.specs.declared.Unpacked.TheVariants.{Done as Unpacks, Refused as NotUnpacked}
+use Rattle.unpack.specs.Unpacked.{Unpacked, Done as Unpacks, Refused as NotUnpacked}
 use Rattle.unpack.specs.Unpacking.{unpack_of}
-use Rattle.vtt_read.specs.declared.FileRead.{FileRead}
-use Rattle.vtt_read.specs.declared.FileRead.TheVariants.{Done as Reads, Refused as NotRead}
+use Rattle.vtt_read.specs.FileRead.{FileRead, Done as Reads, Refused as NotRead}
 use Rattle.vtt_read.specs.Reading.{read_of}
-use Rattle.vtt_write.specs.declared.FileWritten.{FileWritten}
-use Rattle.vtt_write.specs.declared.FileWritten.TheVariants.{Done as FileDone, BadConfiguration, BadList as BadCues, NoRoom}
+use Rattle.vtt_write.specs.FileWritten.{FileWritten, Done as FileDone, BadConfiguration, BadList as BadCues, NoRoom}
 use Rattle.vtt_write.specs.Writing.{written_of as file_written}
-use Rattle.table_lasting.specs.declared.Dropped.{Dropped}
-use Rattle.table_lasting.specs.declared.Dropped.TheVariants.{Done as Drops, Refused as NotDropped}
+use Rattle.table_lasting.specs.Dropped.{Dropped, Done as Drops, Refused as NotDropped}
 use Rattle.table_lasting.specs.Dropping.{drop_of}
-use Rattle.tx3g_convert.specs.declared.Converted.{Converted}
-use Rattle.tx3g_convert.specs.declared.Converted.TheVariants.{Done as Converts, BadEntry, BadTrack as BadStock, NoRoom as NoRoomLeft}
+use Rattle.tx3g_convert.specs.Converted.{Converted, Done as Converts, BadEntry, BadTrack as BadStock, NoRoom as NoRoomLeft}
 use Rattle.tx3g_convert.specs.Convert.{convert_of}
 use Rattle.tx3g_entry.specs.Entry.{judge_entry as judge_tx3g_entry}
 use Rattle.tx3g_sample.specs.Sample.{counted_at, read_sample, verdict_of}
-use Rattle.tx3g_modifiers.specs.declared.Held.{Held as Modifier}
-use Rattle.tx3g_modifiers.specs.declared.Held.TheVariants.{One as HeldModifier, Refused as NoModifier, End as NoMoreModifiers}
+use Rattle.tx3g_modifiers.specs.Held.{Held as Modifier, One as HeldModifier, Refused as NoModifier, End as NoMoreModifiers}
 use Rattle.tx3g_modifiers.specs.Modifiers.{next_modifier}
 use Rattle.tx3g_style.specs.Style.{style_of, fault_of}
-use Rattle.tx3g_box.specs.declared.Spot.{Spot}
-use Rattle.tx3g_box.specs.declared.Spot.TheVariants.{Sample as SampleBox, Entry as EntryBox, BadEntry as BoxEntry, BadSample as BoxSample}
+use Rattle.tx3g_box.specs.Spot.{Spot, Sample as SampleBox, Entry as EntryBox, BadEntry as BoxEntry, BadSample as BoxSample}
 use Rattle.tx3g_box.specs.TextBox.{spot_of}
 use Rattle.demands.specs.Offsets.{InSample, InEntry, InWritten, InConfiguration, InPayload, InSettings, InRecord, InFile, InTrack, InText, InTx3g, InStock, Never}
 
@@ -69,15 +57,15 @@ SettingsListed Says Fine = Unit {0}
 SettingsListed Says (Refused r) = (InTable r.number ⊎ (r.number ≡ 20)) × (r.number ≢ 6 → r.offset ≡ 0) × (r.number ≡ 6 → Says r.place r.offset)
 
 abbrev pub packing : Packed → Verdict
-packing (Done n t b) = Fine
+packing (Ok x) = Fine
 packing (NotPacked r) = Refused r
 
 abbrev pub unpacking : Unpacked → Verdict
-unpacking (Unpacks n p T) = Fine
+unpacking (Ok x) = Fine
 unpacking (NotUnpacked r) = Refused r
 
 abbrev pub reading : FileRead → Verdict
-reading (Reads n r p) = Fine
+reading (Ok x) = Fine
 reading (NotRead r) = Refused r
 
 -- of the check: the list's texts, or the track's, by who is at fault
@@ -95,13 +83,13 @@ WriteListed configuration records pool (NoRoom r) = Listed Never (Refused r)
 
 -- of converting a track: the entry has no text that is judged, and the samples' texts and payloads have; by who is at fault
 abbrev pub ConvertListed : List ℕ → List ℕ → List ℕ → Converted → Type 0
-ConvertListed e table samples (Converts n r p t c) = Unit {0}
+ConvertListed e table samples (Ok x) = Unit {0}
 ConvertListed e table samples (BadEntry r) = Listed Never (Refused r)
 ConvertListed e table samples (BadStock r) = Listed (InStock e table samples) (Refused r)
 ConvertListed e table samples (NoRoomLeft r) = Listed Never (Refused r)
 
 abbrev pub dropping : Dropped → Verdict
-dropping (Drops n t b) = Fine
+dropping (Ok x) = Fine
 dropping (NotDropped r) = Refused r
 
 abbrev pub writing : Written → Verdict

@@ -4,10 +4,10 @@ use Rattle.std.specs.Prelude.{ℕ, ◌≤◌, ◌<◌, ◌≡◌, ◌↔◌, Lis
 use Rattle.viable.specs.FirstBad.{FirstBad, Passes}
 use Rattle.verdict.specs.Judgement.{fault, bad_text}
 use Rattle.text.specs.Rules.{identifier_text}
-use Rattle.wvtt_entry_write.specs.declared.Written.TheVariants.{Done as Writes, Refused as NotWritten}
+use Rattle.wvtt_entry_write.specs.Written.{Done as Writes, Refused as NotWritten}
 use Rattle.settings.specs.declared.Settings.{Settings}
 use Rattle.settings.specs.declared.Reading.{Reading}
-use Rattle.settings.specs.declared.Read.TheVariants.{Done, Refused}
+use Rattle.settings.specs.Read.{Done, Refused}
 use Rattle.settings.specs.Grammar.{Record, SettingsText, WrongAt}
 use Rattle.settings.specs.Reading.{read_settings, said}
 use Rattle.settings.specs.Statements.{ReadsAs}

@@ -1,9 +1,9 @@
 -- Document 02, K9: the old 3GPP stock. What a conversion has written can be packed, its cues are the samples with text left, each over its own time, and their text is the
 -- samples' text; and a table without its samples of duration 0 shows the same at every tick.
+use Rattle.std.specs.Prelude.{Ok}
 use Rattle.std.specs.Prelude.{ℕ, ◌+◌, ◌*◌, ◌≤◌, ◌<◌, ◌≡◌, ◌↔◌, true, false, List, [], length, take, drop, get_or}
 use Rattle.verdict.specs.declared.Refusal.{Refusal}
-use Rattle.verdict.specs.declared.Verdict.{Verdict}
-use Rattle.verdict.specs.declared.Verdict.TheVariants.{Fine}
+use Rattle.verdict.specs.Verdict.{Verdict, Fine}
 use Rattle.verdict.specs.Judgement.{fault}
 use Rattle.times.specs.Times.{back, timeline_allowed}
 use Rattle.timeline.specs.Cues.{Body}
@@ -13,8 +13,7 @@ use Rattle.records.specs.Records.{count, source_id, start_ms, end_ms, text_offse
 use Rattle.cues.specs.Judgement.{judge_list}
 use Rattle.table.specs.Table.{row_count, duration_of, bytes_of, judge_row_by, judge_rows}
 use Rattle.table.specs.Parts.{parts_of}
-use Rattle.table_lasting.specs.declared.Dropped.{Dropped}
-use Rattle.table_lasting.specs.declared.Dropped.TheVariants.{Done as Kept, Refused as NotDropped}
+use Rattle.table_lasting.specs.Dropped.{Dropped, Done as Kept, Refused as NotDropped}
 use Rattle.table_lasting.specs.Lasting.{track_by}
 use Rattle.table_lasting.specs.Dropping.{drop_room}
 use Rattle.tx3g_payload.specs.Left.{only_breaks, text_left}
@@ -22,8 +21,7 @@ use Rattle.tx3g_payload.specs.Statements.{untagged, unescaped}
 use Rattle.tx3g_payload_write.specs.Sample.{characters_at, payload_in}
 use Rattle.tx3g_stock.specs.declared.Counts.{Counts}
 use Rattle.tx3g_stock.specs.Stock.{counts_of}
-use Rattle.tx3g_convert.specs.declared.Converted.{Converted}
-use Rattle.tx3g_convert.specs.declared.Converted.TheVariants.{Done, BadEntry, BadTrack, NoRoom}
+use Rattle.tx3g_convert.specs.Converted.{Converted, Done, BadEntry, BadTrack, NoRoom}
 use Rattle.tx3g_convert.specs.Convert.{convert_room}
 use Rattle.tx3g_convert_laws.specs.Statements.{begin_of}
 use Rattle.demands.specs.Calls.{ConvertCall, DropCall}
@@ -74,8 +72,8 @@ ConvertedIsFine =
 
 -- what the room says of an answer where a and b bytes are lent
 abbrev pub ConvertTells : Converted → ℕ → ℕ → Converted → Type 0
-ConvertTells (Done n r p t c) a b answer =
-    (r ≤ a → p ≤ b → answer ≡ Done n r p t c) × (a < r → answer ≡ NoRoom (fault 15 0)) × (r ≤ a → b < p → answer ≡ NoRoom (fault 15 1))
+ConvertTells (Ok x) a b answer =
+    (x.records ≤ a → x.pool ≤ b → answer ≡ Done x.cues x.records x.pool x.t x.dropped) × (a < x.records → answer ≡ NoRoom (fault 15 0)) × (x.records ≤ a → b < x.pool → answer ≡ NoRoom (fault 15 1))
 ConvertTells (BadEntry q) a b answer = answer ≡ BadEntry q
 ConvertTells (BadTrack q) a b answer = answer ≡ BadTrack q
 ConvertTells (NoRoom q) a b answer = answer ≡ NoRoom q
@@ -88,7 +86,7 @@ ConvertRoomTells =
 
 -- a call that is refused has written nothing, whoever is at fault
 abbrev pub Unwritten : List ℕ → List ℕ → List ℕ → List ℕ → Converted → Type 0
-Unwritten records pool records_after pool_after (Done n r p t c) = Unit {0}
+Unwritten records pool records_after pool_after (Ok x) = Unit {0}
 Unwritten records pool records_after pool_after (BadEntry q) = (records_after ≡ records) × (pool_after ≡ pool)
 Unwritten records pool records_after pool_after (BadTrack q) = (records_after ≡ records) × (pool_after ≡ pool)
 Unwritten records pool records_after pool_after (NoRoom q) = (records_after ≡ records) × (pool_after ≡ pool)
@@ -118,8 +116,8 @@ DropChangesNothing =
     × (row_count (take t rows_after) ≡ n) × (drop t rows_after ≡ drop t rows) × (drop b content_after ≡ drop b content)
 
 abbrev pub DropTells : Dropped → ℕ → ℕ → Dropped → Type 0
-DropTells (Kept n t b) x y answer =
-    (t ≤ x → b ≤ y → answer ≡ Kept n t b) × (x < t → answer ≡ NotDropped (fault 15 0)) × (t ≤ x → y < b → answer ≡ NotDropped (fault 15 1))
+DropTells (Ok z) x y answer =
+    (z.table ≤ x → z.bytes ≤ y → answer ≡ Kept z.samples z.table z.bytes) × (x < z.table → answer ≡ NotDropped (fault 15 0)) × (z.table ≤ x → y < z.bytes → answer ≡ NotDropped (fault 15 1))
 DropTells (NotDropped r) x y answer = answer ≡ NotDropped r
 
 abbrev pub DropRoomTells : Type 0

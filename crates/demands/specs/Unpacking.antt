@@ -1,8 +1,9 @@
 -- Demand 2's way back, what unpacking answers, and document 01's line on accepting an unpacked list.
+use Rattle.std.specs.Prelude.{Ok}
 use Rattle.std.specs.Prelude.{ℕ, zero, suc, ◌+◌, ◌*◌, ◌≤◌, ◌<◌, ◌≡◌, List, length, take, drop, get_or}
 use Rattle.std.proofs.Math.Option.{some}
 use Rattle.verdict.specs.declared.Refusal.{Refusal}
-use Rattle.verdict.specs.declared.Verdict.TheVariants.{Fine}
+use Rattle.verdict.specs.Verdict.{Fine}
 use Rattle.verdict.specs.Judgement.{fault}
 use Rattle.times.specs.Times.{back, Limits}
 use Rattle.timeline.specs.Cues.{Cue}
@@ -11,12 +12,10 @@ use Rattle.timeline.specs.Unpacking.{no_cue, ListOf}
 use Rattle.records.specs.Records.{count, source_id, start_ms, end_ms, text_offset, identifier_length, settings_length, payload_length, identifier_of, settings_of, payload_of}
 use Rattle.cues.specs.Judgement.{judge_list}
 use Rattle.track.specs.Track.{track_of, judge_track, Readable}
-use Rattle.pack.specs.declared.Packed.TheVariants.{Done as PackDone}
-use Rattle.conform.specs.declared.Checked.{Checked}
-use Rattle.conform.specs.declared.Checked.TheVariants.{Passed}
+use Rattle.pack.specs.Packed.{Done as PackDone}
+use Rattle.conform.specs.Checked.{Checked, Passed}
 use Rattle.records_write.specs.Records.{records_of, pool_of}
-use Rattle.unpack.specs.declared.Unpacked.{Unpacked}
-use Rattle.unpack.specs.declared.Unpacked.TheVariants.{Done, Refused}
+use Rattle.unpack.specs.Unpacked.{Unpacked, Done, Refused}
 use Rattle.unpack.specs.Unpacking.{unpack_room}
 use Rattle.demands.specs.Calls.{PackCall, CheckCall, UnpackCall}
 
@@ -85,7 +84,7 @@ UnpackingIsDone =
 
 -- what the room says of an answer where a and b bytes are lent: lengths that fit are the answer, others are 15; a refusal is the answer
 abbrev pub Tells : Unpacked → ℕ → ℕ → Unpacked → Type 0
-Tells (Done n p t) a b answer = (n ≤ a → p ≤ b → answer ≡ Done n p t) × (a < n → answer ≡ Refused (fault 15 0)) × (n ≤ a → b < p → answer ≡ Refused (fault 15 1))
+Tells (Ok x) a b answer = (x.records ≤ a → x.pool ≤ b → answer ≡ Done x.records x.pool x.t) × (a < x.records → answer ≡ Refused (fault 15 0)) × (x.records ≤ a → b < x.pool → answer ≡ Refused (fault 15 1))
 Tells (Refused r) a b answer = answer ≡ Refused r
 
 abbrev pub UnpackRoomTells : Type 0

@@ -1,7 +1,7 @@
 -- The size and the type of a sample entry. Document 01, 'Order': in an entry the fixed fields come first.
 use Rattle.std.specs.Prelude.{ℕ, List, not, ltb, eqb, length}
 use Rattle.base.specs.Choice.{any_of}
-use Rattle.verdict.specs.declared.Verdict.{Verdict}
+use Rattle.verdict.specs.Verdict.{Verdict}
 use Rattle.verdict.specs.Judgement.{◌gives◌at◌, ◌then◌}
 use Rattle.fields.specs.BigEndian.{be}
 

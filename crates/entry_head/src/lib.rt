@@ -5,28 +5,27 @@ ghost use Rattle.std.specs.Prelude.{◌≡◌, ◌≤◌};
 ghost use Rattle.entry_head.specs.Head.{judge_head};
 
 use fields::get32;
-use verdict::{Verdict, refused};
+use verdict::{Reason, Verdict};
 
 // The size and the type of an entry of this kind, which has `fixed` bytes before its boxes.
+#[tactic(auto, unfolding(crate::specs::Head::judge_head))]
 pub fn judge_head(e: &[u8], fixed: usize, kind: u32) -> Verdict
     requires { 8 ≤ fixed }
     ensures { result ≡ judge_head e.now fixed kind }
 {
     if e.len() < fixed {
-        return refused(1, 0);
+        return Reason::BytesMissing.refused(0);
     }
     let size = get32(e, 0) as usize;
     if e.len() < size {
-        return refused(1, 0);
+        return Reason::BytesMissing.refused(0);
     }
-    if size < fixed {
-        return refused(2, 0);
-    }
-    if size < e.len() {
-        return refused(2, 0);
+    if size < fixed || size < e.len() {
+        return Reason::BadSize.refused(0);
     }
     if get32(e, 4) == kind {
-        return Verdict::Fine;
+        Ok(())
+    } else {
+        Reason::BadSize.refused(0)
     }
-    refused(2, 0)
 }

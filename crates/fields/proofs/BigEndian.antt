@@ -3,9 +3,14 @@ use Prim.Native.Nat.{ℕ, zero, suc, ◌+◌, ◌*◌, ◌/◌, ◌%◌, ◌^◌
 use mathlib.Core.Path.{◌≡◌, refl, sym, ap, ◌∙◌}
 use mathlib.Core.List.{List, [], ◌∷◌, ◌++◌}
 use native.Mathlib.Omega.{arith}
-use native.Mathlib.Nat.{add-zero, zero-add, add-suc, add_assoc, pow-suc}
+use native.Mathlib.Nat.{add-zero, zero-add, add_assoc, pow-suc}
 use lib.ListN.{length, get_or, length-append, get_or-append}
 use lib.Seq.{get_or-append-add, get_or_at}
+use borrow.Rule.Slice.PartMut.{put_mid}
+use Rattle.std.proofs.lemmas.Slice.{put_mid-paste}
+use Rattle.std.proofs.lemmas.List.{take_all}
+use Rattle.base.specs.Over.{wrote}
+use Rattle.base.proofs.Over.{paste-wrote}
 use Rattle.fields.specs.BigEndian.{be, bytes, BeBytes}
 
 -- each of the bytes is one
@@ -50,8 +55,8 @@ be-written w v p r h =
     ∙ be-front w (bytes w v) r 0 (omega arith)
     ∙ be-bytes w v h
 
--- a number of v and w bytes is the one of the first v and the one of the w behind them
-pub be-add : (v w : ℕ) (s : List ℕ) (at : ℕ) → be (v + w) s at ≡ be v s at * 256 ^ w + be w s (at + v)
-unfolding be
-be-add v zero s at = rw add-zero (omega arith)
-be-add v (suc w) s at = rw (add-suc, be, be-add v w s at, pow-suc, add_assoc) (omega arith)
+-- a number's bytes, copied into a part of a slice
+pub put-bytes : (d ys : List ℕ) (at w k v : ℕ) → ys ≡ bytes w v → k ≡ w → put_mid at k d ys ≡ wrote d at (bytes w v)
+put-bytes d ys at w k v e h =
+    let l = length-bytes w v in
+    put_mid-paste at k d ys (bytes w v) w e (sym h) (sym l) ∙ paste-wrote d at (bytes w v) w (omega arith) ∙ ap (wrote d at) (take_all w (bytes w v) (omega arith))

@@ -1,7 +1,6 @@
 -- One cue: what taking it does to the table.
-use Prim.Native.Nat.{ℕ, zero, suc, ◌+◌, ◌*◌, ◌≤◌, ◌<◌}
+use Prim.Native.Nat.{ℕ, suc, ◌+◌, ◌*◌, ◌≤◌, ◌<◌}
 use mathlib.Core.Path.{◌≡◌, refl, sym, ap, ◌∙◌, subst}
-use mathlib.Core.Logic.{◌≢◌}
 use mathlib.Core.Bool.{Bool, true, false}
 use mathlib.Core.Option.{some}
 use mathlib.Core.List.{List, [], ◌∷◌, ◌++◌}
@@ -18,21 +17,18 @@ use Rattle.timeline.specs.Cues.{Cue, same_id, same_body}
 use Rattle.timeline.specs.Unpacking.{fresh, till, index_of}
 use Rattle.timeline.specs.Joining.{Taking, refused, going, again, on_index, take_body}
 use Rattle.rows.specs.declared.Row.{Row}
-use Rattle.rows.specs.Table.{row_at, numbers_of, body_at, cue_at, known, same_texts, again_number, Placed, Missing, Good}
+use Rattle.std.proofs.Common.{Result, Ok, Err}
+use Rattle.rows.specs.Table.{row_at, numbers_of, body_at, cue_at, known, same_texts, judged_again, Placed, Missing, Good}
 use Rattle.rows.proofs.Laws.{row_written, row_kept, ending, row-ended, row-ended-other, listed_same, listed-set, length-known, known_at, id-missing, id-found}
 
 pub take-unnamed : (samples : List ℕ) (b e : ℕ) (cs : List Cue) (k : ℕ) (named : Bool) (y : Row) → named ≡ false → refused 17 ≡ take_body b e cs k (body_at samples named y)
 unfolding take_body body_at
 take-unnamed samples b e cs k named y h = rw h
 
--- g, unless there is a number
-abbrev pub unless : ℕ → Taking → Taking
-unless zero g = g
-unless (suc m) g = refused (suc m)
-
-pub unless_not : (m : ℕ) (g : Taking) → m ≢ 0 → refused m ≡ unless m g
-unless_not zero g h = absurd (h refl)
-unless_not (suc m) g h = refl
+-- g, unless something is wrong
+abbrev pub unless : Result (Unit {0}) ℕ → Taking → Taking
+unless (Ok u) g = g
+unless (Err m) g = refused m
 
 cue-ended : (samples : List ℕ) (e : ℕ) (r : Row) → cue_at samples (ending e r) ≡ till e (cue_at samples r)
 unfolding cue_at ending till body_at
@@ -90,12 +86,12 @@ module _ (samples tab : List ℕ) (n k : ℕ) (named : Bool) (y : Row) (is : nam
     same_body_lem = rw (eq-eqb (row_at tab j).id y.id e)
 
     again-number : again y.start y.end (known samples tab n) k (body_at samples true y) j
-        ≡ unless (again_number samples (row_at tab j) y k j) (going (set (known samples tab n) j (till y.end (cue_at samples (row_at tab j)))) (suc j))
-    unfolding again again_number cue_at row_at
+        ≡ unless (judged_again samples (row_at tab j) y k j) (going (set (known samples tab n) j (till y.end (cue_at samples (row_at tab j)))) (suc j))
+    unfolding again judged_again cue_at row_at
     again-number = rw (known_at samples tab n j h, same_body_lem) (go (eqb (row_at tab j).end y.end) (ltb (row_at tab j).end y.start) (same_texts samples (row_at tab j) y) (leb k j))
       where
         go : (s t u v : Bool) → let gone = going (set (known samples tab n) j (till y.end (cue_at samples (row_at tab j)))) (suc j) in
-            pick s (refused 12) (pick t (refused 13) (pick u (pick v gone (refused 11)) (refused 14))) ≡ unless (pick s 12 (pick t 13 (pick u (pick v 0 11) 14))) gone
+            pick s (refused 12) (pick t (refused 13) (pick u (pick v gone (refused 11)) (refused 14))) ≡ unless (pick s (Err 12) (pick t (Err 13) (pick u (pick v (Ok tt) (Err 11)) (Err 14)))) gone
         go true t u v = refl
         go false true u v = refl
         go false false true true = refl
@@ -103,11 +99,13 @@ module _ (samples tab : List ℕ) (n k : ℕ) (named : Bool) (y : Row) (is : nam
         go false false false v = refl
 
     take_again : take_body y.start y.end (known samples tab n) k (body_at samples named y)
-        ≡ unless (again_number samples (row_at tab j) y k j) (going (set (known samples tab n) j (till y.end (cue_at samples (row_at tab j)))) (suc j))
+        ≡ unless (judged_again samples (row_at tab j) y k j) (going (set (known samples tab n) j (till y.end (cue_at samples (row_at tab j)))) (suc j))
     take_again = take-named ∙ rw (id-found samples tab n l y.id j g h e) again-number
 
-    pub take-fault : (m : ℕ) (x : Row) → x ≡ row_at tab j → m ≡ again_number samples x y k j → m ≢ 0 → refused m ≡ take_body y.start y.end (known samples tab n) k (body_at samples named y)
-    take-fault m x r q z = unless_not m _ z ∙ ap (λ (i : ℕ). unless i (going (set (known samples tab n) j (till y.end (cue_at samples (row_at tab j)))) (suc j))) (q ∙ ap (λ (w : Row). again_number samples w y k j) r) ∙ sym take_again
+    pub take-fault : (m : ℕ) (x : Row) → x ≡ row_at tab j → judged_again samples x y k j ≡ Err m → refused m ≡ take_body y.start y.end (known samples tab n) k (body_at samples named y)
+    take-fault m x r q =
+        let w : judged_again samples (row_at tab j) y k j ≡ Err m = ap (λ (v : Row). judged_again samples v y k j) (sym r) ∙ q in
+        sym (take_again ∙ rw w)
 
     module _ (f : j * 9 + 9 ≤ length tab) where
       known-ended : known samples (set tab (j * 9 + 2) y.end) n ≡ set (known samples tab n) j (till y.end (cue_at samples (row_at tab j)))
@@ -120,10 +118,10 @@ module _ (samples tab : List ℕ) (n k : ℕ) (named : Bool) (y : Row) (is : nam
           ended : cue_at samples (row_at (set tab (j * 9 + 2) y.end) j) ≡ till y.end (cue_at samples (row_at tab j))
           ended = ap (cue_at samples) (row-ended tab j y.end f) ∙ cue-ended samples y.end (row_at tab j)
 
-      pub take-known : (m : ℕ) (x : Row) → x ≡ row_at tab j → m ≡ again_number samples x y k j → m ≡ 0
+      pub take-known : (x : Row) → x ≡ row_at tab j → judged_again samples x y k j ≡ Ok tt
           → going (known samples (set tab (j * 9 + 2) y.end) n) (j + 1) ≡ take_body y.start y.end (known samples tab n) k (body_at samples named y)
-      take-known m x r q z =
-          let w : again_number samples (row_at tab j) y k j ≡ 0 = ap (λ (v : Row). again_number samples v y k j) (sym r) ∙ sym q ∙ z in
+      take-known x r q =
+          let w : judged_again samples (row_at tab j) y k j ≡ Ok tt = ap (λ (v : Row). judged_again samples v y k j) (sym r) ∙ q in
           rw (add-one, known-ended) (sym (take_again ∙ rw w))
 
       id-kept : (i : ℕ) → (row_at (set tab (j * 9 + 2) y.end) i).id ≡ (row_at tab i).id

@@ -1,1 +1,3 @@
+pub mod Took
+pub mod Gathered
 pub mod Gathering

@@ -11,9 +11,8 @@ use Rattle.base.proofs.Choice.{by-test}
 use Rattle.decimal.specs.Decimal.{value, value_from}
 use Rattle.input.specs.Reading.{grown, fed, line_at, FedLine}
 use Rattle.input.proofs.Lines.{apart}
-use Rattle.input.specs.Line.{is_digit, top, before, behind, all_digits, number, written, line_of}
+use Rattle.input.specs.Line.{is_digit, top, before, behind, all_digits, number, written, line_of, Numbers, Bad}
 use Rattle.input.specs.declared.Reading.TheVariants.{Scale, Space, Time, Whole, Wrong}
-use Rattle.input.specs.declared.Line.TheVariants.{Numbers, Bad}
 
 both_true : (a : Bool) → both a true ≡ a
 both_true true = refl

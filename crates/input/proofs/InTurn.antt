@@ -13,8 +13,7 @@ use Rattle.input.proofs.Chunks.{fed-append}
 use Rattle.input.proofs.Fed.{fed-wrong, fed-line}
 use Rattle.input.specs.declared.Reading.{Reading}
 use Rattle.input.specs.declared.Reading.TheVariants.{Start, Scale, Space, Time, Whole, Wrong}
-use Rattle.input.specs.declared.Line.{Line}
-use Rattle.input.specs.declared.Line.TheVariants.{Bad}
+use Rattle.input.specs.Line.{Line, Bad}
 use Rattle.input.specs.declared.Chunk.{Chunk}
 
 wrong-is : (r : Reading) → is_wrong r ≡ true → r ≡ Wrong

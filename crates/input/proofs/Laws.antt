@@ -7,23 +7,14 @@ use native.Mathlib.Numerals.{add-one}
 use lib.Dec.{leb}
 use lib.ListN.{length, get_or, drop, drop_of_length-le}
 use lib.Seq.{drop-cons}
-use borrow.Author.Tests.{lt-leb, le-leb, leb-true}
+use borrow.Author.Tests.{leb-true}
 use Rattle.base.specs.Choice.{within}
 use Rattle.base.proofs.Choice.{both_left}
-use Rattle.input.specs.Line.{is_digit}
+use Rattle.input.specs.Line.{is_digit, Bad}
 use Rattle.input.specs.Reading.{stepped, fed, line_at}
 use Rattle.input.specs.Reads.{is_wrong}
 use Rattle.input.specs.declared.Reading.{Reading}
 use Rattle.input.specs.declared.Reading.TheVariants.{Start, Scale, Space, Time, Whole, Wrong}
-use Rattle.input.specs.declared.Line.TheVariants.{Bad}
-
-pub digit_low : (b : ℕ) → b < 48 → false ≡ is_digit b
-unfolding is_digit within
-digit_low b h = rw (lt-leb 48 b h)
-
-pub digit-test : (b : ℕ) → 48 ≤ b → leb b 57 ≡ is_digit b
-unfolding is_digit within
-digit-test b h = rw (le-leb 48 b h)
 
 pub digit-from : (b : ℕ) → is_digit b ≡ true → 48 ≤ b
 unfolding is_digit within

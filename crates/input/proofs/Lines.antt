@@ -1,6 +1,6 @@
 -- Two numbers are a line, and no other bytes are.
 use Prim.Native.Nat.{ℕ, ◌≤◌}
-use mathlib.Core.Path.{◌≡◌, refl, ap}
+use mathlib.Core.Path.{◌≡◌, refl, sym, ap}
 use mathlib.Core.Bool.{Bool, true, false}
 use mathlib.Core.List.{List, [], ◌∷◌, ◌++◌}
 use native.Mathlib.Omega.{arith}
@@ -9,8 +9,7 @@ use borrow.Author.Tests.{eq-eqb, ne_eqb, leb-true}
 use Rattle.base.specs.Choice.{pick, both, within, same_list}
 use Rattle.base.proofs.Choice.{both_left, both_right, true-false, same-list, list_same}
 use Rattle.decimal.specs.Decimal.{value}
-use Rattle.input.specs.declared.Line.TheVariants.{Numbers, Bad}
-use Rattle.input.specs.Line.{is_digit, top, before, behind, all_digits, number, written, line_of, LineNumbers, LineWritten}
+use Rattle.input.specs.Line.{Line, Numbers, Bad, is_digit, top, before, behind, all_digits, number, written, line_of, LineNumbers, LineWritten}
 
 digits-all : (s : List ℕ) → number s ≡ true → all_digits s ≡ true
 digits-all [] h = true-false false h refl
@@ -43,6 +42,18 @@ line-numbers a b h k =
     let z : before 10 (b ++ 10 ∷ []) ≡ b = before-digits 10 b [] (omega arith) (digits-all b k) in
     rw (x, y, z, list_same (written a b), h, k)
 
+-- lines that are the same have the same numbers
+abbrev first_of : Line → ℕ
+first_of (Numbers n m) = n
+first_of Bad = 0
+
+abbrev second_of : Line → ℕ
+second_of (Numbers n m) = m
+second_of Bad = 0
+
+same_numbers : {n m x y : ℕ} → Numbers n m ≡ Numbers x y → (n ≡ x) × (m ≡ y)
+same_numbers e = (ap first_of e, ap second_of e)
+
 pub line-written : LineWritten
 unfolding line_of
 line-written s x y e =
@@ -56,7 +67,8 @@ line-written s x y e =
     go true true f g e =
         let a = before 32 s in
         let b = before 10 (behind 32 s) in
-        (a, b, same-list s (written a b) f, both_left (number a) (number b) g, both_right (number a) (number b) g, cc, cc)
+        let w = same_numbers e in
+        (a, b, same-list s (written a b) f, both_left (number a) (number b) g, both_right (number a) (number b) g, sym w.0, sym w.1)
     go true false f g e = let z : ◌≡◌ {A = ℕ} 0 1 = cc in absurd (omega arith)
     go false true f g e = let z : ◌≡◌ {A = ℕ} 0 1 = cc in absurd (omega arith)
     go false false f g e = let z : ◌≡◌ {A = ℕ} 0 1 = cc in absurd (omega arith)

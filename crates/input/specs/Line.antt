@@ -1,9 +1,17 @@
 -- The input line as a whole: digits, one space, digits, one line feed, and nothing else. The numbers may have any length.
-use Rattle.std.specs.Prelude.{ℕ, min, ◌≡◌, Bool, true, false, List, [], ◌∷◌, ◌++◌, eqb}
+use Rattle.std.specs.Prelude.{Option, Some, None, ℕ, min, ◌≡◌, Bool, true, false, List, [], ◌∷◌, ◌++◌, eqb}
 use Rattle.base.specs.Choice.{pick, both, within, same_list}
 use Rattle.decimal.specs.Decimal.{value}
-use Rattle.input.specs.declared.Line.{Line}
-use Rattle.input.specs.declared.Line.TheVariants.{Numbers, Bad}
+
+-- what the line says: its two numbers, if it is of this form
+abbrev pub Line : Type 0
+Line = Option (ℕ × ℕ)
+
+pattern abbrev pub Numbers : ℕ → ℕ → Line
+Numbers n m = Some (n, m)
+
+pattern abbrev pub Bad : Line
+Bad = None
 
 unfoldable pub is_digit : ℕ → Bool
 unfolding within

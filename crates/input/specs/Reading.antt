@@ -2,11 +2,9 @@
 -- and `fed-line` say that the bytes, in whatever chunks, give the line of specs/Line.antt.
 use Rattle.std.specs.Prelude.{ℕ, ◌+◌, ◌-◌, ◌*◌, ◌≡◌, List, [], ◌∷◌, ◌++◌, eqb}
 use Rattle.base.specs.Choice.{pick}
-use Rattle.input.specs.Line.{is_digit, top, line_of}
+use Rattle.input.specs.Line.{is_digit, top, line_of, Line, Numbers, Bad}
 use Rattle.input.specs.declared.Reading.{Reading}
 use Rattle.input.specs.declared.Reading.TheVariants.{Start, Scale, Space, Time, Whole, Wrong}
-use Rattle.input.specs.declared.Line.{Line}
-use Rattle.input.specs.declared.Line.TheVariants.{Numbers, Bad}
 
 -- v with the digit b behind it
 unfoldable pub grown : ℕ → ℕ → ℕ

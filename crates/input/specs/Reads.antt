@@ -1,12 +1,10 @@
 -- Reads of standard input, one after the other, and the line that they give.
 use Rattle.std.specs.Prelude.{ℕ, ◌≡◌, Bool, true, false, List, [], ◌∷◌, ◌++◌, take, ℤ, pos, negsuc, nat_abs}
 use Rattle.base.specs.Choice.{pick, any_of}
-use Rattle.input.specs.Line.{line_of}
+use Rattle.input.specs.Line.{line_of, Line, Bad}
 use Rattle.input.specs.Reading.{fed, line_at}
 use Rattle.input.specs.declared.Reading.{Reading}
 use Rattle.input.specs.declared.Reading.TheVariants.{Start, Scale, Space, Time, Whole, Wrong}
-use Rattle.input.specs.declared.Line.{Line}
-use Rattle.input.specs.declared.Line.TheVariants.{Bad}
 use Rattle.input.specs.declared.Chunk.{Chunk}
 
 abbrev pub is_wrong : Reading → Bool

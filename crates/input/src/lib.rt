@@ -6,8 +6,6 @@ ghost use Rattle.input.specs.Line.{is_digit};
 ghost use Rattle.input.specs.Reading.{grown, stepped, fed, line_at};
 ghost use Rattle.input.specs.Reads.{is_wrong, chunk_of};
 
-use compare::least;
-
 // How far the line is read, with the numbers so far. A number above 4294967295 counts as that.
 #[derive(Clone, Copy)]
 pub enum Reading {
@@ -17,13 +15,6 @@ pub enum Reading {
     Time { scale: u32, t: u32 },
     Whole { scale: u32, t: u32 },
     Wrong,
-}
-
-// The line: its two numbers, or not of that form.
-#[derive(Clone, Copy)]
-pub enum Line {
-    Numbers { scale: u32, t: u32 },
-    Bad,
 }
 
 // What a read leaves: how far the line is read, and whether there is no more to read.
@@ -36,10 +27,7 @@ pub struct Chunk {
 fn is_digit(b: u8) -> bool
     ensures { result ≡ is_digit b }
 {
-    if b < 48 {
-        return false;
-    }
-    b <= 57
+    (b'0'..=b'9').contains(&b)
 }
 
 // v with a digit behind it.
@@ -47,59 +35,54 @@ fn grow(v: u32, b: u8) -> u32
     requires { is_digit b ≡ true }
     ensures { result ≡ grown v b }
 {
-    let n = v as u64 * 10 + (b - 48) as u64;
-    if 4294967295 < n {
-        return 4294967295;
-    }
-    n as u32
+    let n = u64::from(v) * 10 + u64::from(b - b'0');
+    n.min(4294967295) as u32
 }
 
 fn begin_scale(b: u8) -> Reading
     ensures { result ≡ stepped Reading.Start b }
 {
     if is_digit(b) {
-        return Reading::Scale(grow(0, b));
+        Reading::Scale(grow(0, b))
+    } else {
+        Reading::Wrong
     }
-    Reading::Wrong
 }
 
 fn go_on_scale(v: u32, b: u8) -> Reading
     ensures { result ≡ stepped (Reading.Scale v) b }
 {
     if is_digit(b) {
-        return Reading::Scale(grow(v, b));
+        Reading::Scale(grow(v, b))
+    } else if b == b' ' {
+        Reading::Space(v)
+    } else {
+        Reading::Wrong
     }
-    if b == 32 {
-        return Reading::Space(v);
-    }
-    Reading::Wrong
 }
 
 fn begin_time(scale: u32, b: u8) -> Reading
     ensures { result ≡ stepped (Reading.Space scale) b }
 {
     if is_digit(b) {
-        return Reading::Time {
-            scale,
-            t: grow(0, b),
-        };
+        let t = grow(0, b);
+        Reading::Time { scale, t }
+    } else {
+        Reading::Wrong
     }
-    Reading::Wrong
 }
 
 fn go_on_time(scale: u32, t: u32, b: u8) -> Reading
     ensures { result ≡ stepped (Reading.Time scale t) b }
 {
     if is_digit(b) {
-        return Reading::Time {
-            scale,
-            t: grow(t, b),
-        };
+        let t = grow(t, b);
+        Reading::Time { scale, t }
+    } else if b == b'\n' {
+        Reading::Whole { scale, t }
+    } else {
+        Reading::Wrong
     }
-    if b == 10 {
-        return Reading::Whole { scale, t };
-    }
-    Reading::Wrong
 }
 
 // One byte more.
@@ -111,8 +94,7 @@ fn take_byte(state: Reading, b: u8) -> Reading
         Reading::Scale(v) => go_on_scale(v, b),
         Reading::Space(scale) => begin_time(scale, b),
         Reading::Time { scale, t } => go_on_time(scale, t, b),
-        Reading::Whole { scale, t } => Reading::Wrong,
-        Reading::Wrong => Reading::Wrong,
+        Reading::Whole { .. } | Reading::Wrong => Reading::Wrong,
     }
 }
 
@@ -121,31 +103,26 @@ pub fn feed(state: Reading, bytes: &[u8]) -> Reading
     ensures { result ≡ fed state bytes.now }
 {
     let mut reached = state;
-    let mut i = 0;
-    while i < bytes.len() {
-        reached = take_byte(reached, bytes[i]);
-        i += 1;
+    for &b in bytes {
+        reached = take_byte(reached, b);
     }
     reached
 }
 
 // What the bytes are, when there are no more.
-pub fn finish(state: Reading) -> Line
+pub fn finish(state: Reading) -> Option<(u32, u32)>
     ensures { result ≡ line_at state }
 {
     let Reading::Whole { scale, t } = state else {
-        return Line::Bad;
+        return None;
     };
-    Line::Numbers { scale, t }
+    Some((scale, t))
 }
 
 fn is_wrong(state: Reading) -> bool
     ensures { result ≡ is_wrong state }
 {
-    let Reading::Wrong = state else {
-        return false;
-    };
-    true
+    matches!(state, Reading::Wrong)
 }
 
 // A read more, which answered `got` and left its bytes at the front of the buffer. One that failed makes the line a bad one.
@@ -158,14 +135,8 @@ pub fn take_read(state: Reading, got: isize, buffer: &[u8]) -> Chunk
             last: true,
         };
     }
-    let n = least(got as usize, buffer.len());
+    let n = (got as usize).min(buffer.len());
     let next = feed(state, &buffer[..n]);
-    if n == 0 {
-        return Chunk {
-            state: next,
-            last: true,
-        };
-    }
-    let last = is_wrong(next);
+    let last = n == 0 || is_wrong(next);
     Chunk { state: next, last }
 }

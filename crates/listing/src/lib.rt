@@ -32,8 +32,8 @@ fn put_row(table: &[u8], k: usize, out: &mut [u8], at: usize) -> usize
     requires { (k * 8 + 8 ≤ length table.now) × (at + 22 ≤ length out.old) }
     ensures { (result ≡ at + length (row_text table.now k)) × (result ≤ at + 22) × (out.new ≡ wrote out.old at (row_text table.now k)) }
 {
-    let duration = get32(table, k * 8) as u64;
-    let size = get32(table, k * 8 + 4) as u64;
+    let duration = u64::from(get32(table, k * 8));
+    let size = u64::from(get32(table, k * 8 + 4));
     put_pair(&mut *out, at, duration, size)
 }
 
@@ -43,10 +43,8 @@ pub fn put_rows(table: &[u8], count: usize, out: &mut [u8]) -> usize
     ensures { (result ≡ length (rows_text table.now count)) × (out.new ≡ over (rows_text table.now count) out.old) }
 {
     let mut at = 0;
-    let mut k = 0;
-    while k < count {
+    for k in 0..count {
         at = put_row(table, k, &mut *out, at);
-        k += 1;
     }
     at
 }
@@ -56,14 +54,7 @@ fn put_word(out: &mut [u8])
     requires { 8 ≤ length out.old }
     ensures { out.new ≡ wrote out.old 0 word }
 {
-    out[0] = b'r';
-    out[1] = b'e';
-    out[2] = b'f';
-    out[3] = b'u';
-    out[4] = b's';
-    out[5] = b'e';
-    out[6] = b'd';
-    out[7] = b' ';
+    out[..8].copy_from_slice(b"refused ");
 }
 
 // The line of a refusal; gives its length.
@@ -72,5 +63,5 @@ pub fn put_refusal(number: u32, place: usize, out: &mut [u8]) -> usize
     ensures { (result ≡ length (refusal_text number place)) × (out.new ≡ over (refusal_text number place) out.old) }
 {
     put_word(&mut *out);
-    put_pair(&mut *out, 8, number as u64, place as u64)
+    put_pair(&mut *out, 8, u64::from(number), place as u64)
 }

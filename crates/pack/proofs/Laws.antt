@@ -2,6 +2,7 @@
 use Prim.Native.Nat.{ℕ, zero, suc, ◌+◌, ◌-◌, ◌*◌, ◌≤◌, ◌<◌}
 use mathlib.Core.Path.{◌≡◌, refl, sym, ap, ap₂, ◌∙◌}
 use mathlib.Core.Bool.{Bool, true, false}
+use Rattle.std.proofs.Common.{Ok}
 use mathlib.Core.Option.{some}
 use mathlib.Core.List.{List, [], ◌∷◌, ◌++◌, append-nil, append_assoc}
 use native.Mathlib.Omega.{arith}
@@ -31,10 +32,8 @@ use Rattle.cuts.specs.Cuts.{start_tick, end_tick, runs_at, record_size, cues_siz
 use Rattle.cuts.specs.Window.{Ended, Later}
 use Rattle.cuts.proofs.Laws.{runs-started, runs-ended, runs-later, size-more, size-most, not-empty}
 use Rattle.verdict.specs.declared.Refusal.{Refusal}
-use Rattle.verdict.specs.declared.Verdict.{Verdict}
-use Rattle.verdict.specs.declared.Verdict.TheVariants.{Fine, Refused as Faulty}
-use Rattle.pack.specs.declared.Packed.{Packed}
-use Rattle.pack.specs.declared.Packed.TheVariants.{Done, Refused}
+use Rattle.verdict.specs.Verdict.{Verdict, Fine, Refused as Faulty}
+use Rattle.pack.specs.Packed.{Packed, Done, Refused}
 use Rattle.pack.specs.Packing.{packed_track, row_bytes, table_bytes, samples_bytes, sizes_of, pack_room, roomed, packed_of, after}
 use Rattle.pack.specs.Writing.{shown, Inside}
 
@@ -198,6 +197,22 @@ pub room-told : (scale T : ℕ) (recs pool : List ℕ) (a b : ℕ) (p : Packed) 
 unfolding packed_of
 room-told scale T recs pool a b p n t m e q = ap (roomed a b) (sym e ∙ q)
 
+-- answers that are the same have the same numbers
+abbrev samples_in : Packed → ℕ
+samples_in (Ok x) = x.samples
+samples_in (Refused r) = 0
+
+abbrev table_in : Packed → ℕ
+table_in (Ok x) = x.table
+table_in (Refused r) = 0
+
+abbrev bytes_in : Packed → ℕ
+bytes_in (Ok x) = x.bytes
+bytes_in (Refused r) = 0
+
+pub same_sizes : {n t m x y z : ℕ} → Done n t m ≡ Done x y z → (n ≡ x) × (t ≡ y) × (m ≡ z)
+same_sizes e = (ap samples_in e, ap table_in e, ap bytes_in e)
+
 -- the lengths are those of a packed track, of a list without fault
 pub room-means : (scale T : ℕ) (recs pool : List ℕ) (p : Packed) (n t m : ℕ) → p ≡ pack_room scale T recs pool → p ≡ Done n t m
     → (judge_list scale T recs pool ≡ Fine) × (t ≡ length (table_bytes (packed_track scale T recs pool))) × (m ≡ length (samples_bytes (packed_track scale T recs pool)))
@@ -207,10 +222,7 @@ room-means scale T recs pool p n t m e q = go (judge_list scale T recs pool) ref
     apart : (r : Refusal) → pack_room scale T recs pool ≡ Refused r → ◌≡◌ {A = ℕ} 0 1
     apart r k = cc
 
-    same : (x y z : ℕ) → pack_room scale T recs pool ≡ Done x y z → (t ≡ y) × (m ≡ z)
-    same x y z k = ((cc), (cc))
-
     go : (v : Verdict) → judge_list scale T recs pool ≡ v
         → (judge_list scale T recs pool ≡ Fine) × (t ≡ length (table_bytes (packed_track scale T recs pool))) × (m ≡ length (samples_bytes (packed_track scale T recs pool)))
     go (Faulty r) f = absurd (omega (arith, apart r (faulty-room scale T recs pool r f)))
-    go Fine f = let w = same _ _ _ (fine-room scale T recs pool f) in (f, w.0, w.1)
+    go Fine f = let w = same_sizes (sym q ∙ e ∙ fine-room scale T recs pool f) in (f, w.1, w.2)

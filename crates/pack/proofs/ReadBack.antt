@@ -5,7 +5,7 @@ use mathlib.Core.List.{List, [], ◌∷◌, map, Memᴰ}
 use native.Mathlib.Omega.{arith}
 use lib.ListN.{length, get_or, length-map, get_or-map}
 use lib.Seq.{ext_get_or}
-use Rattle.verdict.specs.declared.Verdict.TheVariants.{Fine}
+use Rattle.verdict.specs.Verdict.{Fine}
 use Rattle.timeline.specs.Lists.{listed}
 use Rattle.timeline.specs.Tracks.{Sample, blank}
 use Rattle.timeline.proofs.Indexed.{index-mem}

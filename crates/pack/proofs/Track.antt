@@ -9,10 +9,10 @@ use mathlib.Core.List.{List, [], ◌∷◌, Memᴰ}
 use native.Mathlib.Omega.{arith}
 use lib.ListN.{length, length-append}
 use Rattle.base.proofs.Choice.{by-test}
-use Rattle.verdict.specs.declared.Verdict.TheVariants.{Fine}
+use Rattle.verdict.specs.Verdict.{Fine}
 use Rattle.times.specs.Times.{tick}
 use Rattle.timeline.specs.Cues.{Body, Cue, chosen}
-use Rattle.timeline.specs.Tracks.{Sample, total, Right}
+use Rattle.timeline.specs.Tracks.{Sample, total}
 use Rattle.timeline.specs.Packing.{packed, stretches, held_over, sorted, marks}
 use Rattle.timeline.proofs.Running.{chosen-mem}
 use Rattle.timeline.proofs.Packed.{packed-right}
@@ -26,7 +26,7 @@ use Rattle.records.specs.Records.{count, source_id}
 use Rattle.cues.specs.Judgement.{judge_list}
 use Rattle.cues.specs.List.{body_of, cue_of, cues_of, SoundRecord, Sound}
 use Rattle.cues.proofs.Sound.{fine-sound, fine-proper, length-cues}
-use Rattle.track.specs.Track.{track_of, judge_track, Readable}
+use Rattle.track.specs.Track.{judge_track}
 use Rattle.cuts.specs.Cuts.{or_empty}
 use Rattle.pack.specs.Packing.{packed_track, table_bytes, samples_bytes}
 use Rattle.pack.specs.Statements.{PackedIsRight, SamplesMost, ReadsBack, PackedReadable}

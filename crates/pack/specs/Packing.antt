@@ -1,9 +1,9 @@
 -- Packing: the track of a list of records, its bytes, and the whole answer. Document 01, 'Tracks and packing' and 'Order'.
+use Rattle.std.specs.Prelude.{Ok}
 use Rattle.std.specs.Prelude.{ℕ, List, [], ◌∷◌, ◌++◌, ltb, length}
 use Rattle.base.specs.Choice.{pick}
 use Rattle.base.specs.Over.{over}
-use Rattle.verdict.specs.declared.Verdict.{Verdict}
-use Rattle.verdict.specs.declared.Verdict.TheVariants.{Fine, Refused as Faulty}
+use Rattle.verdict.specs.Verdict.{Verdict, Fine, Refused as Faulty}
 use Rattle.verdict.specs.Judgement.{fault}
 use Rattle.fields.specs.BigEndian.{bytes}
 use Rattle.times.specs.Times.{tick}
@@ -12,8 +12,7 @@ use Rattle.timeline.specs.Packing.{packed}
 use Rattle.wvtt_write.specs.Written.{sample_bytes}
 use Rattle.cues.specs.Judgement.{judge_list}
 use Rattle.cues.specs.List.{cues_of}
-use Rattle.pack.specs.declared.Packed.{Packed}
-use Rattle.pack.specs.declared.Packed.TheVariants.{Done, Refused}
+use Rattle.pack.specs.Packed.{Packed, Done, Refused}
 
 -- the packed track of the records' cues
 unfoldable pub packed_track : ℕ → ℕ → List ℕ → List ℕ → List Sample
@@ -50,7 +49,7 @@ pack_room scale T recs pool = unless_faulty (judge_list scale T recs pool) (size
 
 -- 15: the table does not fit (place 0), the samples do not (place 1)
 abbrev pub roomed : ℕ → ℕ → Packed → Packed
-roomed table_room samples_room (Done n t b) = pick (ltb table_room t) (Refused (fault 15 0)) (pick (ltb samples_room b) (Refused (fault 15 1)) (Done n t b))
+roomed table_room samples_room (Ok x) = pick (ltb table_room x.table) (Refused (fault 15 0)) (pick (ltb samples_room x.bytes) (Refused (fault 15 1)) (Done x.samples x.table x.bytes))
 roomed table_room samples_room (Refused r) = Refused r
 
 -- the answer: the list's fault; else 15; else done
@@ -60,5 +59,5 @@ packed_of scale T recs pool table_room samples_room = roomed table_room samples_
 
 -- what an output d holds afterwards: the result p over its front, or else what it held
 abbrev pub after : Packed → List ℕ → List ℕ → List ℕ
-after (Done n t b) p d = over p d
+after (Ok x) p d = over p d
 after (Refused r) p d = d

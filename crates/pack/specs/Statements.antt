@@ -1,6 +1,6 @@
 -- What holds of packing's answer, and of what it writes for a list without fault.
 use Rattle.std.specs.Prelude.{ℕ, ◌+◌, ◌*◌, ◌≤◌, ◌<◌, ◌≡◌, List, length}
-use Rattle.verdict.specs.declared.Verdict.TheVariants.{Fine}
+use Rattle.verdict.specs.Verdict.{Fine}
 use Rattle.verdict.specs.Judgement.{fault}
 use Rattle.times.specs.Times.{tick}
 use Rattle.timeline.specs.Tracks.{Right}
@@ -9,7 +9,7 @@ use Rattle.records.specs.Records.{count}
 use Rattle.cues.specs.Judgement.{judge_list}
 use Rattle.cues.specs.List.{cues_of}
 use Rattle.track.specs.Track.{track_of, Readable}
-use Rattle.pack.specs.declared.Packed.TheVariants.{Done, Refused}
+use Rattle.pack.specs.Packed.{Done, Refused}
 use Rattle.pack.specs.Packing.{packed_track, table_bytes, samples_bytes, packed_of}
 
 -- a list without fault is packed if there is room for table and samples

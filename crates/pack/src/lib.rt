@@ -15,21 +15,10 @@ ghost use Rattle.pack.specs.Writing.{shown, Inside};
 use cues::judge_list;
 use cuts::{Stretch, end_tick, measure, sample_size, stretch_from};
 use records::{identifier_length, payload_length, settings_length, source_id, text_offset};
-use table::put_row;
+use table::{Sizes, put_row};
 use times::tick_of;
-use verdict::{Refusal, Verdict, fault_at};
+use verdict::{Reason, Refusal, Verdict};
 use wvtt_write::{put_cue, put_empty};
-
-// How many samples were written, and the bytes of the table and of the samples; or why nothing was.
-#[derive(Clone, Copy)]
-pub enum Packed {
-    Done {
-        samples: usize,
-        table: usize,
-        bytes: usize,
-    },
-    Refused(Refusal),
-}
 
 // The cue of a record that has started by b, unless it has ended; gives the place behind it.
 fn put_record(
@@ -75,10 +64,8 @@ fn put_cues(
     ensures out_after { out.new ≡ wrote out.old at (cues_bytes (shown scale records.now pool.now b n)) }
 {
     let mut to = at;
-    let mut k = first;
-    while k < last {
+    for k in first..last {
         to = put_record(&mut *out, to, scale, records, pool, k, b);
-        k += 1;
     }
     to
 }
@@ -101,9 +88,10 @@ fn put_sample(
     ensures out_after { out.new ≡ wrote out.old at (sample_bytes (shown scale records.now pool.now b n)) }
 {
     if s.cues == 0 {
-        return put_empty(&mut *out, at);
+        put_empty(&mut *out, at)
+    } else {
+        put_cues(&mut *out, at, scale, records, pool, n, s.first, s.last, b)
     }
-    put_cues(&mut *out, at, scale, records, pool, n, s.first, s.last, b)
 }
 
 // The track, where there is room for it.
@@ -145,27 +133,24 @@ fn write_track(
 }
 
 // The room for a list without fault.
-fn measure_sound(scale: u32, t: u32, records: &[u8], pool: &[u8]) -> Packed
+fn measure_sound(scale: u32, t: u32, records: &[u8], pool: &[u8]) -> Result<Sizes, Refusal>
     requires { Sound scale t records.now pool.now }
     ensures { result ≡ sizes_of (packed_track scale t records.now pool.now) }
 {
     let size = measure(scale, tick_of(scale, t), records, records.len() / 24);
-    Packed::Done {
+    Ok(Sizes {
         samples: size.count,
         table: size.count * 8,
         bytes: size.bytes,
-    }
+    })
 }
 
 // The room that packing needs: what it answers where there is enough.
-pub fn pack_room(scale: u32, t: u32, records: &[u8], pool: &[u8]) -> Packed
+pub fn pack_room(scale: u32, t: u32, records: &[u8], pool: &[u8]) -> Result<Sizes, Refusal>
     ensures { result ≡ pack_room scale t records.now pool.now }
 {
-    let v = judge_list(scale, t, records, pool);
-    let Verdict::Refused(why) = v else {
-        return measure_sound(scale, t, records, pool);
-    };
-    Packed::Refused(why)
+    judge_list(scale, t, records, pool)?;
+    measure_sound(scale, t, records, pool)
 }
 
 // Packs a list of records and their pool into a table and samples, or says why not.
@@ -176,26 +161,18 @@ pub fn pack(
     pool: &[u8],
     table: &mut [u8],
     samples: &mut [u8],
-) -> Packed
+) -> Result<Sizes, Refusal>
     ensures value { result ≡ packed_of scale t records.now pool.now (length table.old) (length samples.old) }
     ensures table_after { table.new ≡ after result (table_bytes (packed_track scale t records.now pool.now)) table.old }
     ensures samples_after { samples.new ≡ after result (samples_bytes (packed_track scale t records.now pool.now)) samples.old }
 {
-    let room = pack_room(scale, t, records, pool);
-    let Packed::Done {
-        samples: _,
-        table: rows,
-        bytes,
-    } = room
-    else {
-        return room;
-    };
-    if table.len() < rows {
-        return Packed::Refused(fault_at(15, 0));
+    let room = pack_room(scale, t, records, pool)?;
+    if table.len() < room.table {
+        return Err(Reason::NoRoom.fault_at(0));
     }
-    if samples.len() < bytes {
-        return Packed::Refused(fault_at(15, 1));
+    if samples.len() < room.bytes {
+        return Err(Reason::NoRoom.fault_at(1));
     }
     write_track(scale, t, records, pool, &mut *table, &mut *samples);
-    room
+    Ok(room)
 }

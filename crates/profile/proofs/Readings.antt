@@ -9,11 +9,8 @@ use native.Mathlib.Nat.{add-zero, zero-add}
 use native.Mathlib.Numerals.{add-one}
 use lib.ListN.{length, get_or, drop, drop_of_length-le}
 use lib.Seq.{drop-cons}
-use Rattle.viable.specs.declared.Judged.{Judged}
-use Rattle.viable.specs.declared.Judged.TheVariants.{Right}
-use Rattle.viable.specs.declared.Judged.TheVariants.{Bad as BadAt}
-use Rattle.profile.specs.declared.Spot.{Spot}
-use Rattle.profile.specs.declared.Spot.TheVariants.{Past, Bad}
+use Rattle.viable.specs.Judged.{Judged, Right, Bad as BadAt}
+use Rattle.profile.specs.Spot.{Spot, Past, Bad}
 use Rattle.profile.specs.Machine.{State, at, Text, step, final, later, judge_from, judge}
 use Rattle.profile.specs.Readings.{shift, from, Reads}
 

@@ -10,8 +10,7 @@ use lib.ListN.{length, take, drop, take-append-drop}
 use lib.Seq.{take-take}
 use Rattle.base.specs.Choice.{pick}
 use Rattle.base.proofs.Choice.{either}
-use Rattle.viable.specs.declared.Judged.{Judged}
-use Rattle.viable.specs.declared.Judged.TheVariants.{Right, Bad}
+use Rattle.viable.specs.Judged.{Judged, Right, Bad}
 use Rattle.viable.specs.FirstBad.{Continues}
 use Rattle.viable.proofs.FirstBad.{bytes-behind, Says, judges-by}
 use Rattle.profile.specs.Grammar.{Profile}

@@ -1,6 +1,6 @@
 -- The examples of docs/DECISIONS.md, computed.
 use Rattle.std.specs.Prelude.{ℕ, zero, suc, ◌≡◌, List, [], ◌∷◌, ◌++◌}
-use Rattle.viable.specs.declared.Judged.TheVariants.{Right, Bad}
+use Rattle.viable.specs.Judged.{Right, Bad}
 use Rattle.profile.specs.Machine.{judge}
 
 unfoldable pub repeated : ℕ → List ℕ → List ℕ

@@ -1,3 +1,4 @@
+pub mod Spot
 pub mod Grammar
 pub mod Machine
 pub mod Readings

@@ -1,11 +1,8 @@
 -- Terms of contracts: what a reader's answer says of the judge's answer. A reader knows a part of the state; what it does not know, the tags around it above all, is a parameter x.
 use Rattle.std.specs.Prelude.{ℕ, ◌+◌, ◌≤◌, ◌≡◌, List, ◌∷◌, length, drop}
-use Rattle.viable.specs.declared.Judged.{Judged}
-use Rattle.viable.specs.declared.Judged.TheVariants.{Right}
-use Rattle.viable.specs.declared.Judged.TheVariants.{Bad as BadAt}
+use Rattle.viable.specs.Judged.{Judged, Right, Bad as BadAt}
 use Rattle.profile.specs.declared.Tag.{Tag}
-use Rattle.profile.specs.declared.Spot.{Spot}
-use Rattle.profile.specs.declared.Spot.TheVariants.{Past, Bad}
+use Rattle.profile.specs.Spot.{Spot, Past, Bad}
 use Rattle.profile.specs.Machine.{Mode, State, at, Text, judge_from}
 
 abbrev pub shift : ℕ → Judged → Judged

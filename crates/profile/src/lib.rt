@@ -13,10 +13,3 @@ pub enum Tag {
     Ruby,
     Rt,
 }
-
-// A reader's answer. Past: read up to here. Bad: no text of the profile could have the byte here, or the text ends here too early.
-#[derive(Clone, Copy)]
-pub enum Spot {
-    Past(usize),
-    Bad(usize),
-}

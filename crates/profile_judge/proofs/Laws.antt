@@ -13,33 +13,27 @@ use borrow.Author.Tests.{ne_eqb, eqb-true, lt-ltb, lt-leb, le-ltb, leb-true, leb
 use Rattle.base.proofs.Choice.{by-test, either}
 use Rattle.viable.specs.FirstBad.{judged_by}
 use Rattle.verdict.specs.declared.Refusal.{Refusal}
-use Rattle.verdict.specs.declared.Verdict.{Verdict}
-use Rattle.verdict.specs.declared.Verdict.TheVariants.{Fine, Refused}
+use Rattle.verdict.specs.Verdict.{Verdict, Fine, Refused}
 use Rattle.verdict.specs.Judgement.{text_at}
 use Rattle.text.specs.Rules.{payload_text}
 use Rattle.text.specs.Beginnings.{payload_begun}
 use Rattle.profile_judge.specs.Judgement.{outside, judge_profile}
-use Rattle.viable.specs.declared.Judged.{Judged}
-use Rattle.viable.specs.declared.Judged.TheVariants.{Right}
-use Rattle.viable.specs.declared.Judged.TheVariants.{Bad as BadAt}
+use Rattle.viable.specs.Judged.{Judged, Right, Bad as BadAt}
 use Rattle.profile.specs.Machine.{Kind, And, Less, More, Point, Blank, Break, Other, Beyond}
 use Rattle.profile.specs.declared.Tag.{Tag}
-use Rattle.profile.specs.declared.Spot.{Spot}
-use Rattle.profile.specs.declared.Spot.TheVariants.{Past, Bad}
+use Rattle.profile.specs.Spot.{Spot, Past, Bad}
 use Rattle.profile.specs.Grammar.{besides, one_of, plain_byte, is_ruby}
 use Rattle.profile.specs.Machine.{kind, at, Text, Lt, on_text, step, judge}
 use Rattle.profile.specs.Readings.{from, Reads, Anywhere, goes_on, Around, texted}
 use Rattle.profile.proofs.ByteKinds.{never, plain_kind, plain_is}
 use Rattle.profile.proofs.Readings.{from_end, from-yes, from-dead, from_step, from-whole, r-dead, r-then, r-bad, r-map, byte_step, on-byte}
 use Rattle.profile_words.proofs.Laws.{amps}
-use Rattle.profile_times.specs.declared.Stamped.TheVariants.{Time, Amiss}
+use Rattle.profile_times.specs.Stamped.{Time, Amiss}
 use Rattle.profile_times.specs.Terms.{TimeIs}
-use Rattle.profile_tags.specs.declared.Named.TheVariants.{Found}
-use Rattle.profile_tags.specs.declared.Named.TheVariants.{Wrong as Misnamed}
-use Rattle.profile_judge.specs.declared.Part.{Part}
-use Rattle.profile_judge.specs.declared.Part.TheVariants.{On, Wrong}
+use Rattle.profile_tags.specs.Named.{Found, Wrong as Misnamed}
+use Rattle.profile_judge.specs.Part.{Part, On, Wrong}
 use Rattle.profile_tags.specs.Terms.{Here, lesses, StartIs, closes}
-use Rattle.profile_judge.specs.Terms.{part_of, Marked, PlainIs, MarkIs, Timely, in_text, TextIs, Stops, Further, Room, texts, less_at, SpanIs, ended, ContentIs}
+use Rattle.profile_judge.specs.Terms.{part_of, Marked, PlainIs, MarkIs, Timely, in_text, TextIs, Further, Room, texts, less_at, SpanIs, ended, ContentIs}
 
 -- ---- one byte of text
 
@@ -110,9 +104,6 @@ module _ (s : List ℕ) (p i low least : ℕ) (k : Reads (List Tag) s p (Past i)
   text-then (On n up) l = r-then (List Tag) s p i (Past n) (in_text low) (in_text least) (in_text up) k l
   text-then (Wrong q) l = r-then (List Tag) s p i (Bad q) (in_text low) (in_text least) (in_text low) k (r-bad (List Tag) s i q (in_text least) (in_text least) (in_text low) l)
 
-pub wrong-stops : (s : List ℕ) (r : Part) (q : ℕ) → r ≡ Wrong q → Stops s r
-wrong-stops s r q e = rw e tt
-
 -- ---- content
 
 module _ (s : List ℕ) (p left : ℕ) (ruby : Bool) (low : ℕ) where
@@ -127,8 +118,8 @@ module _ (s : List ℕ) (p left : ℕ) (ruby : Bool) (low : ℕ) where
       r-then (Room left ruby) s p i (Past n) (texts left ruby low) (texts left ruby least) (texts left ruby up) k
       (r-map (List Tag) (Room left ruby) (λ x. x.0) s i (Past n) (in_text least) (in_text up) l)
 
-  pub content-wrong : (r : Part) (q : ℕ) → r ≡ Wrong q → TextIs s p low r → ContentIs s p left ruby low r
-  content-wrong r q e k = rw e (λ x. (rw e at k).leads x.0)
+  pub content-wrong : (q : ℕ) → TextIs s p low (Wrong q) → ContentIs s p left ruby low (Wrong q)
+  content-wrong q k = λ x. k.leads x.0
 
   -- the end
   pub content-whole : p ≡ length s → left ≡ 16 → ContentIs s p left ruby low (On p low)
@@ -157,8 +148,8 @@ module _ (s : List ℕ) (p left : ℕ) (ruby : Bool) (low : ℕ) where
     pub content-span : (n up : ℕ) → SpanIs s (p + 1) left ruby low (On n up) → Reads (Room left ruby) s p (Past n) (texts left ruby low) (texts left ruby up)
     content-span n up k = record { bounds = (omega (arith, k.bounds.0), k.bounds.1); leads = λ x. less x.0 ∙ k.leads x }
 
-    pub content-torn : (r : Part) (q : ℕ) → r ≡ Wrong q → SpanIs s (p + 1) left ruby low r → ContentIs s p left ruby low r
-    content-torn r q z k = rw z (λ x. less x.0 ∙ (rw z at k).leads x)
+    pub content-torn : (q : ℕ) → SpanIs s (p + 1) left ruby low (Wrong q) → ContentIs s p left ruby low (Wrong q)
+    content-torn q k = λ x. less x.0 ∙ k.leads x
 
     -- behind </
     module _ (l : p + 1 < length s) (b : get_or s (p + 1) 0 ≡ 47) where
@@ -212,9 +203,9 @@ module _ (s : List ℕ) (p left : ℕ) (ruby : Bool) (low : ℕ) (z : (left ≡ 
     unfolding here
     opening = r-map (Here ruby) (Room left ruby) here s p (Past n) (lesses ruby) (λ h. at Text (t ∷ h.0) h.1) k
 
-    pub span-torn : (r : Part) (q : ℕ) → r ≡ Wrong q → ContentIs s n (left - 1) rb low r → SpanIs s p left ruby low r
+    pub span-torn : (q : ℕ) → ContentIs s n (left - 1) rb low (Wrong q) → SpanIs s p left ruby low (Wrong q)
     unfolding inner
-    span-torn r q d c = rw d (record { bounds = tt; leads = λ x. opening.leads x ∙ (rw d at c) (inner x) })
+    span-torn q c = record { bounds = tt; leads = λ x. opening.leads x ∙ c (inner x) }
 
     pub span-closed : (m up : ℕ) → ContentIs s n (left - 1) rb low (On m up) → (r : Spot) → Reads Around s m r (closes t) texted → SpanIs s p left ruby low (part_of r up)
     unfolding inner
@@ -239,6 +230,12 @@ whole-wrong s q c = sym (from-whole s ∙ c ([], refl, refl))
 
 pub mark-timely : (s : List ℕ) (p : ℕ) → (get_or s p 0 ≡ 38 → ⊥) → MarkIs s p true → (get_or s p 0 ≡ 60) × Timely s (p + 1)
 mark-timely s p n m = elim m.1 [ inl e ↦ absurd (n e) | inr k ↦ k ]
+
+pub mark-last-is : (s : List ℕ) (p : ℕ) → p + 1 ≡ length s → get_or s p 0 < 256 → Marked s p → MarkIs s p (eqb (get_or s p 0) 38)
+mark-last-is s p h f m =
+    by-test (eqb (get_or s p 0) 38)
+    (λ t. rw t (omega arith, inl (eqb-true (get_or s p 0) 38 t)))
+    (λ t. rw t (λ x. marked-less s p x f m (λ e. never (sym t ∙ rw e)), λ x. absurd (omega arith)))
 
 pub mark-time-is : (s : List ℕ) (p : ℕ) → p + 1 < length s → get_or s p 0 < 256 → Marked s p → (get_or s p 0 ≡ 38 → ⊥) → (get_or s (p + 1) 0 ≡ 47 → ⊥) → MarkIs s p (leb (get_or s (p + 1) 0) 57)
 mark-time-is s p h f m a n =

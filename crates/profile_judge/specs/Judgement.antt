@@ -1,10 +1,8 @@
 -- The judgement of a payload by the tag profile. Document 02, K11.
 use Rattle.std.specs.Prelude.{ℕ, List, ltb, length}
-use Rattle.viable.specs.declared.Judged.{Judged}
-use Rattle.viable.specs.declared.Judged.TheVariants.{Right, Bad}
+use Rattle.viable.specs.Judged.{Judged, Right, Bad}
 use Rattle.viable.specs.FirstBad.{judged_by}
-use Rattle.verdict.specs.declared.Verdict.{Verdict}
-use Rattle.verdict.specs.declared.Verdict.TheVariants.{Fine}
+use Rattle.verdict.specs.Verdict.{Verdict, Fine}
 use Rattle.verdict.specs.Judgement.{refuse, text_at, ◌gives◌at◌, ◌then◌}
 use Rattle.text.specs.Rules.{payload_text}
 use Rattle.text.specs.Beginnings.{payload_begun}

@@ -1,17 +1,13 @@
 -- Terms of contracts: what the answers of the readers of text, spans and content say of the judge's answer.
 use Rattle.std.specs.Prelude.{ℕ, ◌+◌, ◌≤◌, ◌<◌, ◌≡◌, Bool, true, false, ◌⊎◌, List, [], ◌∷◌, length, get_or}
-use Rattle.viable.specs.declared.Judged.{Judged}
-use Rattle.viable.specs.declared.Judged.TheVariants.{Right}
-use Rattle.viable.specs.declared.Judged.TheVariants.{Bad as BadAt}
+use Rattle.viable.specs.Judged.{Judged, Right, Bad as BadAt}
 use Rattle.profile.specs.declared.Tag.{Tag}
-use Rattle.profile.specs.declared.Spot.{Spot}
-use Rattle.profile.specs.declared.Spot.TheVariants.{Past, Bad}
+use Rattle.profile.specs.Spot.{Spot, Past, Bad}
 use Rattle.profile.specs.Grammar.{plain_byte}
 use Rattle.profile.specs.Machine.{State, at, Text, Lt, in_ruby}
 use Rattle.profile.specs.Readings.{from, Reads, Around, texted}
 use Rattle.profile_tags.specs.Terms.{closes}
-use Rattle.profile_judge.specs.declared.Part.{Part}
-use Rattle.profile_judge.specs.declared.Part.TheVariants.{On, Wrong}
+use Rattle.profile_judge.specs.Part.{Part, On, Wrong}
 
 abbrev pub part_of : Spot → ℕ → Part
 part_of (Past n) low = On n low

@@ -2,7 +2,7 @@
 use Rattle.std.specs.Prelude.{ℕ, ◌<◌, ◌≡◌, true, List}
 use Rattle.std.proofs.Math.Option.{Option}
 use Rattle.viable.specs.FirstBad.{bytes}
-use Rattle.verdict.specs.declared.Verdict.TheVariants.{Fine}
+use Rattle.verdict.specs.Verdict.{Fine}
 use Rattle.code_points.specs.CodePoints.{scalars}
 use Rattle.records.specs.Records.{payload_of as payload_at}
 use Rattle.records_write.specs.Records.{records_of, pool_of}
@@ -11,7 +11,7 @@ use Rattle.tx3g_sample.specs.Sample.{judge_sample}
 use Rattle.tx3g_payload.specs.Payload.{payload_of}
 use Rattle.tx3g_payload_write.specs.Sample.{payload_in}
 use Rattle.tx3g_stock.specs.declared.Counts.{Counts}
-use Rattle.tx3g_convert.specs.declared.Converted.TheVariants.{Done}
+use Rattle.tx3g_convert.specs.Converted.{Done}
 use Rattle.tx3g_convert.specs.Convert.{stock_cues, convert_room}
 
 -- the payload of any right characters is in the profile: tags are closed in the reverse of the order they were opened in, at most three stand in one another, and no

@@ -12,12 +12,11 @@ use borrow.Author.Tests.{ne_eqb, lt-ltb}
 use Rattle.base.specs.Choice.{pick}
 use Rattle.profile.specs.Machine.{Kind, And, Less, More, Point, Blank, Break, Other, Beyond}
 use Rattle.profile.specs.declared.Tag.{Tag}
-use Rattle.profile.specs.declared.Spot.{Spot}
-use Rattle.profile.specs.declared.Spot.TheVariants.{Past, Bad}
+use Rattle.profile.specs.Spot.{Spot, Past, Bad}
 use Rattle.profile.specs.Grammar.{noted, class_byte}
 use Rattle.profile.specs.Machine.{State, at, Name, Class, Noting, kind, on_head, on_dot, on_note, step, judge_from}
 use Rattle.profile.specs.Readings.{Reads, from, Anywhere, Around, goes_on, opened}
-use Rattle.profile.proofs.Readings.{from_end, r-dead, r-step, r-then, r-bad, r-map, byte_step, on-byte, on-dead}
+use Rattle.profile.proofs.Readings.{from_end, r-dead, r-step, r-then, r-map, byte_step, on-byte, on-dead}
 use Rattle.profile.proofs.ByteKinds.{other_kind, class-is}
 use Rattle.profile_words.proofs.Laws.{amps}
 use Rattle.profile_tags.specs.Terms.{Head, naming, dotting, classing, noting, ended}
@@ -31,9 +30,6 @@ unfolding kind
 break-kind b = ⊎_elim (λ e. rw e) (λ e. rw e)
 
 -- a refusal says nothing of a state behind it
-pub refused : (X : Type 0) (s : List ℕ) (p q : ℕ) (r : Spot) (a b c : X → State) → r ≡ Bad q → Reads X s p r a b → Reads X s p r a c
-refused X s p q r a b c e k = rw e (r-bad X s p q a b c (rw e at k))
-
 -- ---- a class
 
 class-on : (x : Tag) (n : Bool) (k : Kind) (st : List Tag) (low : ℕ) → on_head x true n k st low ≡ pick (other_kind k) (some (at (Class x) st low)) (on_head x false n k st low)

@@ -9,15 +9,13 @@ use lib.ListN.{length, get_or}
 use borrow.Author.Tests.{ne_eqb, lt-ltb, lt-leb}
 use Rattle.profile.specs.declared.Tag.{Tag}
 use Rattle.profile.specs.declared.Tag.TheVariants.{Ruby}
-use Rattle.profile.specs.declared.Spot.{Spot}
-use Rattle.profile.specs.declared.Spot.TheVariants.{Past, Bad}
+use Rattle.profile.specs.Spot.{Spot, Past, Bad}
 use Rattle.profile.specs.Grammar.{name}
 use Rattle.profile.specs.Machine.{State, Mode, at, Text, Lit, LtR, Name, lit, find, tags, tags_r, on_found, step}
 use Rattle.profile.specs.Readings.{Reads, Anywhere, Around, goes_on, texted}
 use Rattle.profile.proofs.Readings.{r-dead, r-here, r-step, r-bad, r-map}
 use Rattle.profile_words.proofs.Laws.{worded}
-use Rattle.profile_tags.specs.declared.Named.{Named}
-use Rattle.profile_tags.specs.declared.Named.TheVariants.{Found, Wrong}
+use Rattle.profile_tags.specs.Named.{Named, Found, Wrong}
 use Rattle.profile_tags.specs.Terms.{Here, lesses, LtRs, names, named_of, NamedIs, closes}
 
 named-is : (s : List ℕ) (p : ℕ) (ruby : Bool) (r : Spot) (x : Tag) (a : (b : Bool) → Here b → State) → Reads (Here ruby) s p r (a ruby) (names ruby x) → NamedIs s p ruby (named_of r x) a

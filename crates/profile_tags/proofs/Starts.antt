@@ -12,15 +12,13 @@ use borrow.Author.Tests.{eqb-true}
 use Rattle.base.proofs.Choice.{by-test}
 use Rattle.profile.specs.declared.Tag.{Tag}
 use Rattle.profile.specs.declared.Tag.TheVariants.{Bold, Italic, Underline, Classed, Voice, Lang, Ruby, Rt}
-use Rattle.profile.specs.declared.Spot.{Spot}
-use Rattle.profile.specs.declared.Spot.TheVariants.{Past, Bad}
+use Rattle.profile.specs.Spot.{Spot, Past, Bad}
 use Rattle.profile.specs.Grammar.{name, noted}
 use Rattle.profile.specs.Machine.{at, Text, Name, lit, find, tags}
 use Rattle.profile.specs.Readings.{Reads, Anywhere, Around, goes_on, texted, opened}
 use Rattle.profile.proofs.Readings.{r-here, r-then, r-bad, r-map}
 use Rattle.profile_words.proofs.Laws.{worded, stands_read}
-use Rattle.profile_tags.specs.declared.Named.{Named}
-use Rattle.profile_tags.specs.declared.Named.TheVariants.{Found, Wrong}
+use Rattle.profile_tags.specs.Named.{Found}
 use Rattle.profile_tags.specs.Terms.{Here, lesses, names, named_of, NamedIs, StartIs, number, ShortIs, closes}
 use Rattle.profile_tags.proofs.Names.{tag-letter}
 use Rattle.profile_tags.proofs.Heads.{head-end}
@@ -28,9 +26,6 @@ use Rattle.profile_tags.proofs.Heads.{head-end}
 -- ---- a start tag
 
 module _ (s : List ℕ) (p : ℕ) (ruby : Bool) where
-  pub start-wrong : (r : Named) (q : ℕ) → r ≡ Wrong q → NamedIs s p ruby r lesses → StartIs s p ruby r
-  start-wrong r q e k = rw e (rw e at k)
-
   pub start-head : (n : ℕ) (x : Tag) (r : Spot) → NamedIs s p ruby (Found n x) lesses → Reads Around s n r (λ e. at (Name x) e.0 e.1) (opened x) → StartIs s p ruby (named_of r x)
   start-head n x (Past m) k l =
       r-then (Here ruby) s p n (Past m) (lesses ruby) (names ruby x) (λ h. at Text (x ∷ h.0) h.1) k

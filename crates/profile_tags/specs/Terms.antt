@@ -2,13 +2,11 @@
 use Rattle.std.specs.Prelude.{ℕ, ◌+◌, ◌≤◌, ◌<◌, ◌≡◌, Bool, true, false, List, [], ◌∷◌, ◌++◌, length, get_or}
 use Rattle.profile.specs.declared.Tag.{Tag}
 use Rattle.profile.specs.declared.Tag.TheVariants.{Bold, Italic, Underline, Classed, Voice, Lang, Ruby, Rt}
-use Rattle.profile.specs.declared.Spot.{Spot}
-use Rattle.profile.specs.declared.Spot.TheVariants.{Past, Bad}
+use Rattle.profile.specs.Spot.{Spot, Past, Bad}
 use Rattle.profile.specs.Grammar.{name}
 use Rattle.profile.specs.Machine.{State, at, Text, Lt, LtR, Name, Dot, Class, Noting, lit, in_ruby}
 use Rattle.profile.specs.Readings.{Reads, Around}
-use Rattle.profile_tags.specs.declared.Named.{Named}
-use Rattle.profile_tags.specs.declared.Named.TheVariants.{Found, Wrong}
+use Rattle.profile_tags.specs.Named.{Named, Found, Wrong}
 
 -- ---- in a start tag
 

@@ -1,93 +1,67 @@
-// Tags in the tag profile: names, classes and annotations of start tags, and end tags. Document 02, K11.
+// Tags in the tag profile: names, classes and annotations of start tags, and end tags. Document 02, K11. A reader answers the place behind what it read, with a name its tag; or the first byte that no text of the profile could have there.
 #![tactic(auto)]
 
-ghost use Rattle.std.specs.Prelude.{◌≡◌, false, ◌≤◌, ◌<◌, length, get_or};
+ghost use Rattle.std.specs.Prelude.{◌≡◌, false, ◌≤◌, ◌<◌, length, get_or, Ok};
 ghost use Rattle.profile.specs.Grammar.{noted, is_ruby, class_byte};
 ghost use Rattle.profile.specs.Machine.{State, Name};
 ghost use Rattle.profile.specs.Readings.{Reads, Around, texted, opened};
-ghost use Rattle.profile_tags.specs.Terms.{Head, naming, dotting, classing, noting, ended, lesses, LtRs, named_of, NamedIs, StartIs, number, ShortIs, closes};
+ghost use Rattle.profile_tags.specs.Terms.{Head, naming, dotting, classing, noting, ended, lesses, LtRs, NamedIs, StartIs, number, ShortIs, closes};
 
-use profile::{Spot, Tag};
+use profile::Tag;
 use profile_words::{read_escape, read_word};
 
 fn is_noted(x: Tag) -> bool
     ensures { result ≡ noted x }
 {
-    match x {
-        Tag::Bold => false,
-        Tag::Italic => false,
-        Tag::Underline => false,
-        Tag::Classed => false,
-        Tag::Voice => true,
-        Tag::Lang => true,
-        Tag::Ruby => false,
-        Tag::Rt => false,
-    }
+    matches!(x, Tag::Voice | Tag::Lang)
 }
 
 pub fn is_ruby(x: Tag) -> bool
     ensures { result ≡ is_ruby x }
 {
-    match x {
-        Tag::Bold => false,
-        Tag::Italic => false,
-        Tag::Underline => false,
-        Tag::Classed => false,
-        Tag::Voice => false,
-        Tag::Lang => false,
-        Tag::Ruby => true,
-        Tag::Rt => false,
-    }
+    matches!(x, Tag::Ruby)
 }
 
 // Whether a class may have this byte.
+#[tactic(auto, unfolding(profile::specs::Grammar::besides, profile::specs::Grammar::one_of))]
 fn is_class(b: u8) -> bool
     ensures { result ≡ class_byte b }
 {
-    match b {
-        b' ' | b'\t' => false,
-        b'\n' | b'\r' => false,
-        b'&' | b'.' | b'<' | b'>' => false,
-        _ => true,
-    }
+    !matches!(b, b' ' | b'\t' | b'\n' | b'\r' | b'&' | b'.' | b'<' | b'>')
 }
 
 // The end of a class, from within it.
 fn skip_class(s: &[u8], at: usize) -> usize
     requires { at ≤ length s.now }
-    ensures { Reads Head s.now at (Spot.Past result) classing naming }
+    ensures { Reads Head s.now at (Ok result) classing naming }
 {
-    let mut i = at;
-    while i < s.len() {
+    for i in at..s.len() {
         if !is_class(s[i]) {
             return i;
         }
-        i += 1;
     }
-    i
+    s.len()
 }
 
 // A class behind its dot: one byte at least.
-fn read_class(s: &[u8], at: usize) -> Spot
+fn read_class(s: &[u8], at: usize) -> Result<usize, usize>
     requires { at ≤ length s.now }
     ensures { Reads Head s.now at result dotting naming }
 {
-    if s.len() <= at {
-        return Spot::Bad(at);
+    if at >= s.len() || !is_class(s[at]) {
+        return Err(at);
     }
-    if !is_class(s[at]) {
-        return Spot::Bad(at);
-    }
-    Spot::Past(skip_class(s, at + 1))
+    Ok(skip_class(s, at + 1))
 }
 
 // An annotation behind its first blank, not all of it blank, and the > behind it.
-fn read_note(s: &[u8], at: usize) -> Spot
+fn read_note(s: &[u8], at: usize) -> Result<usize, usize>
     requires { at ≤ length s.now }
     ensures { Reads Head s.now at result (noting false) ended }
 {
     let mut i = at;
     let mut said = false;
+    // An escape takes several bytes: the step is read from the text.
     while i < s.len() {
         let b = s[i];
         match b {
@@ -95,31 +69,22 @@ fn read_note(s: &[u8], at: usize) -> Spot
                 i += 1;
             }
             b'&' => {
-                let p = read_escape(s, i + 1);
-                let Spot::Past(n) = p else {
-                    return p;
-                };
-                i = n;
+                i = read_escape(s, i + 1)?;
                 said = true;
             }
-            b'>' => {
-                if said {
-                    return Spot::Past(i + 1);
-                }
-                return Spot::Bad(i);
-            }
-            b'\n' | b'\r' => return Spot::Bad(i),
+            b'>' => return if said { Ok(i + 1) } else { Err(i) },
+            b'\n' | b'\r' => return Err(i),
             _ => {
                 i += 1;
                 said = true;
             }
         }
     }
-    Spot::Bad(i)
+    Err(i)
 }
 
 // A start tag behind its name, and its > : classes, then an annotation or none.
-pub fn read_head(s: &[u8], at: usize, x: Tag) -> Spot
+pub fn read_head(s: &[u8], at: usize, x: Tag) -> Result<usize, usize>
     requires { at ≤ length s.now }
     ensures { Reads Around s.now at result (λ e. State.at (Name x) e.0 e.1) (opened x) }
 {
@@ -127,84 +92,52 @@ pub fn read_head(s: &[u8], at: usize, x: Tag) -> Spot
     while i < s.len() {
         let b = s[i];
         match b {
-            b'.' => {
-                let p = read_class(s, i + 1);
-                let Spot::Past(n) = p else {
-                    return p;
-                };
-                i = n;
-            }
-            b'>' => {
-                if is_noted(x) {
-                    return Spot::Bad(i);
-                }
-                return Spot::Past(i + 1);
-            }
+            b'.' => i = read_class(s, i + 1)?,
+            b'>' => return if is_noted(x) { Err(i) } else { Ok(i + 1) },
             b' ' | b'\t' => {
-                if is_noted(x) {
-                    return read_note(s, i + 1);
-                }
-                return Spot::Bad(i);
+                return if is_noted(x) {
+                    read_note(s, i + 1)
+                } else {
+                    Err(i)
+                };
             }
-            _ => return Spot::Bad(i),
+            _ => return Err(i),
         }
     }
-    Spot::Bad(i)
-}
-
-// A start tag's name and the place behind it; or the place of the byte that no name has there.
-#[derive(Clone, Copy)]
-pub enum Named {
-    Found { next: usize, tag: Tag },
-    Wrong(usize),
-}
-
-// A name whose last byte was looked for.
-pub fn name_of(p: Spot, x: Tag) -> Named
-    ensures { result ≡ named_of p x }
-{
-    match p {
-        Spot::Past(n) => Named::Found { next: n, tag: x },
-        Spot::Bad(q) => Named::Wrong(q),
-    }
+    Err(i)
 }
 
 // Behind <r : uby, and directly inside ruby t.
-fn read_ruby(s: &[u8], at: usize, ruby: bool) -> Named
+fn read_ruby(s: &[u8], at: usize, ruby: bool) -> Result<(usize, Tag), usize>
     requires { at ≤ length s.now }
     ensures { NamedIs s.now at ruby result LtRs }
 {
     if s.len() <= at {
-        return Named::Wrong(at);
+        return Err(at);
     }
     let b = s[at];
     match b {
-        b'u' => name_of(read_word(s, at + 1, b"by"), Tag::Ruby),
-        b't' => {
-            if ruby {
-                return name_of(Spot::Past(at + 1), Tag::Rt);
-            }
-            Named::Wrong(at)
-        }
-        _ => Named::Wrong(at),
+        b'u' => Ok((read_word(s, at + 1, b"by")?, Tag::Ruby)),
+        b't' => { if ruby { Ok((at + 1, Tag::Rt)) } else { Err(at) } }
+        _ => Err(at),
     }
 }
 
 // Behind < : a start tag's name.
-pub fn read_tag(s: &[u8], at: usize, ruby: bool) -> Named
+pub fn read_tag(s: &[u8], at: usize, ruby: bool) -> Result<(usize, Tag), usize>
     requires { (at < length s.now) × (57 < get_or s.now at 0) }
     ensures { NamedIs s.now at ruby result lesses }
 {
     let b = s[at];
     match b {
-        b'b' => name_of(Spot::Past(at + 1), Tag::Bold),
-        b'i' => name_of(Spot::Past(at + 1), Tag::Italic),
-        b'u' => name_of(Spot::Past(at + 1), Tag::Underline),
-        b'c' => name_of(Spot::Past(at + 1), Tag::Classed),
-        b'v' => name_of(Spot::Past(at + 1), Tag::Voice),
-        b'l' => name_of(read_word(s, at + 1, b"ang"), Tag::Lang),
+        b'b' => Ok((at + 1, Tag::Bold)),
+        b'i' => Ok((at + 1, Tag::Italic)),
+        b'u' => Ok((at + 1, Tag::Underline)),
+        b'c' => Ok((at + 1, Tag::Classed)),
+        b'v' => Ok((at + 1, Tag::Voice)),
+        b'l' => Ok((read_word(s, at + 1, b"ang")?, Tag::Lang)),
         b'r' => read_ruby(s, at + 1, ruby),
-        _ => Named::Wrong(at),
+        _ => Err(at),
     }
 }
 
@@ -231,17 +164,11 @@ fn is_short(s: &[u8], at: usize, x: Tag) -> bool
     ensures { ShortIs s.now at x result }
 {
     let i = number_of(x);
-    if 5 <= i {
-        return false;
-    }
-    if s.len() - at < 2 {
+    if i >= 5 || s.len() - at < 2 {
         return false;
     }
     let letters = LETTERS;
-    if s[at] != letters[i] {
-        return false;
-    }
-    s[at + 1] == b'>'
+    s[at] == letters[i] && s[at + 1] == b'>'
 }
 
 // The one tag without annotation that this letter may name: i, b, c and u differ in their last three bits. All eight are told, for the compiler to make a table.
@@ -261,27 +188,20 @@ fn likely_tag(b: u8) -> Tag
 }
 
 // A start tag, from its name on.
-pub fn read_start(s: &[u8], at: usize, ruby: bool) -> Named
+pub fn read_start(s: &[u8], at: usize, ruby: bool) -> Result<(usize, Tag), usize>
     requires { (at < length s.now) × (57 < get_or s.now at 0) }
     ensures { StartIs s.now at ruby result }
 {
     let x = likely_tag(s[at]);
     if is_short(s, at, x) {
-        return Named::Found {
-            next: at + 2,
-            tag: x,
-        };
+        return Ok((at + 2, x));
     }
-    let t = read_tag(s, at, ruby);
-    let Named::Found { next, tag } = t else {
-        return t;
-    };
-    let h = read_head(s, next, tag);
-    name_of(h, tag)
+    let (next, tag) = read_tag(s, at, ruby)?;
+    Ok((read_head(s, next, tag)?, tag))
 }
 
 // An end tag's name and its >, byte by byte.
-fn spell_close(s: &[u8], at: usize, x: Tag) -> Spot
+fn spell_close(s: &[u8], at: usize, x: Tag) -> Result<usize, usize>
     requires { at ≤ length s.now }
     ensures { Reads Around s.now at result (closes x) texted }
 {
@@ -298,12 +218,13 @@ fn spell_close(s: &[u8], at: usize, x: Tag) -> Spot
 }
 
 // Behind </ : an end tag's name and its >.
-pub fn read_close(s: &[u8], at: usize, x: Tag) -> Spot
+pub fn read_close(s: &[u8], at: usize, x: Tag) -> Result<usize, usize>
     requires { at ≤ length s.now }
     ensures { Reads Around s.now at result (closes x) texted }
 {
     if is_short(s, at, x) {
-        return Spot::Past(at + 2);
+        Ok(at + 2)
+    } else {
+        spell_close(s, at, x)
     }
-    spell_close(s, at, x)
 }

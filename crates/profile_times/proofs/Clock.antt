@@ -14,11 +14,11 @@ use borrow.Author.Tests.{le-leb, lt-leb, ne_eqb}
 use Rattle.base.specs.Choice.{pick}
 use Rattle.base.proofs.Choice.{either}
 use Rattle.profile.specs.declared.Tag.{Tag}
-use Rattle.profile.specs.declared.Spot.TheVariants.{Past, Bad}
+use Rattle.profile.specs.Spot.{Past, Bad}
 use Rattle.profile.specs.Machine.{Place, clock, most, timed_on, timing, State, at, Text, Lt, Stamp, step, judge_from}
 use Rattle.profile.specs.Readings.{Reads, from}
 use Rattle.profile.proofs.Readings.{r-end, r-dead, r-here, r-step, r-then}
-use Rattle.profile_times.specs.declared.Stamped.TheVariants.{Time, Amiss}
+use Rattle.profile_times.specs.Stamped.{Time, Amiss}
 use Rattle.profile_times.specs.Terms.{TimeIs, Told, lows, highs, Fits}
 
 -- the milliseconds of a step, from the clock's places
@@ -123,9 +123,12 @@ module _ {s : List ℕ} {p low k m : ℕ} (t : Begun s p low k m) (h : k < 13) w
       abbrev top : ℕ
       top = next + get_or rests k 0
 
-      pub top-fits : top ≤ 359999999
+      top-fits : top ≤ 359999999
       unfolding most
       top-fits = omega (arith, rest-is clock k, rw split at t.fits, mul-le-mul_right {m = b - lo} {n = hi - lo} unit (omega arith))
+
+      pub steps-fit : ((b - lo) * unit ≤ 359999999) × (next + get_or rests k 0 ≤ 359999999)
+      steps-fit = (omega (arith, top-fits), top-fits)
 
       steps : (st : List Tag) → step (now st) b ≡ pick (leb low top) (some (stamping ps next low st)) none
       unfolding now step timing

@@ -1,11 +1,10 @@
 -- Terms of contracts: what the answer of a timestamp's reader says of the judge.
 use Rattle.std.specs.Prelude.{ℕ, suc, ◌+◌, ◌<◌, ◌≤◌, List, map, get_or}
 use Rattle.profile.specs.declared.Tag.{Tag}
-use Rattle.profile.specs.declared.Spot.TheVariants.{Past, Bad}
+use Rattle.profile.specs.Spot.{Past, Bad}
 use Rattle.profile.specs.Machine.{Place, clock, at, Text, Lt}
 use Rattle.profile.specs.Readings.{Reads}
-use Rattle.profile_times.specs.declared.Stamped.{Stamped}
-use Rattle.profile_times.specs.declared.Stamped.TheVariants.{Time, Amiss}
+use Rattle.profile_times.specs.Stamped.{Stamped, Time, Amiss}
 
 -- behind the `<` at p, where a time must be at least low: the time v up to n; or the answer of the whole is q
 abbrev pub TimeIs : List ℕ → ℕ → ℕ → Stamped → Type 0

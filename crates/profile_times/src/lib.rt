@@ -1,15 +1,8 @@
-// The reader of a timestamp in a payload of the tag profile.
+// The reader of a timestamp in a payload of the tag profile: the place behind it, and its milliseconds; or the first place where no timestamp of at least `low` can have its byte.
 #![tactic(auto)]
 
 ghost use Rattle.std.specs.Prelude.{◌≡◌, true, ◌+◌, ◌<◌, ◌≤◌, length, get_or};
 ghost use Rattle.profile_times.specs.Terms.{TimeIs, Told, Fits};
-
-// The place behind a timestamp, and its milliseconds; or the first place where no timestamp of at least `low` can have its byte, or where the text ends.
-#[derive(Clone, Copy)]
-pub enum Stamped {
-    Time { next: usize, time: u32 },
-    Amiss(usize),
-}
 
 // At each place of hh:mm:ss.mmm>: the lowest and the highest byte.
 const LOWEST: [u8; 13] = *b"00:00:00.000>";
@@ -30,13 +23,7 @@ const RESTS: [u32; 13] = [
 fn out_of(lo: u8, hi: u8, b: u8) -> u8
     ensures { result ≡ 0 → (lo ≤ b) × (b ≤ hi) }
 {
-    if b < lo {
-        return 1;
-    }
-    if hi < b {
-        return 1;
-    }
-    0
+    u8::from(b < lo || b > hi)
 }
 
 // Whether the 13 bytes from `at` on are within their bounds. It does not end early, so that the compiler takes wide steps.
@@ -48,7 +35,7 @@ fn fits_clock(s: &[u8], at: usize) -> bool
     let highest = HIGHEST;
     let mut x = 0;
     for k in 0..13 {
-        x = x | out_of(lowest[k], highest[k], s[at + k]);
+        x |= out_of(lowest[k], highest[k], s[at + k]);
     }
     x == 0
 }
@@ -68,7 +55,7 @@ fn time_at(s: &[u8], at: usize) -> u32
 }
 
 // The timestamp byte by byte, with the first place that is amiss.
-fn spell_time(s: &[u8], at: usize, low: u32) -> Stamped
+fn spell_time(s: &[u8], at: usize, low: u32) -> Result<(usize, u32), usize>
     requires { (at < length s.now) × (get_or s.now at 0 ≤ 57) × (get_or s.now at 0 ≡ 47 → ⊥) }
     ensures { TimeIs s.now at low result }
 {
@@ -80,36 +67,30 @@ fn spell_time(s: &[u8], at: usize, low: u32) -> Stamped
     for k in 0..13 {
         let i = at + k;
         if s.len() <= i {
-            return Stamped::Amiss(i);
+            return Err(i);
         }
         let b = s[i];
         let least = lowest[k];
         if b < least || highest[k] < b {
-            return Stamped::Amiss(i);
+            return Err(i);
         }
         time += (b - least) as u32 * units[k];
         if time + rests[k] < low {
-            return Stamped::Amiss(i);
+            return Err(i);
         }
     }
-    Stamped::Time {
-        next: at + 13,
-        time,
-    }
+    Ok((at + 13, time))
 }
 
 // A timestamp of at least `low` milliseconds, from the byte behind its `<` on: at once if its bytes are within their bounds and it is not too low.
-pub fn read_time(s: &[u8], at: usize, low: u32) -> Stamped
+pub fn read_time(s: &[u8], at: usize, low: u32) -> Result<(usize, u32), usize>
     requires { (at < length s.now) × (get_or s.now at 0 ≤ 57) × (get_or s.now at 0 ≡ 47 → ⊥) }
     ensures { TimeIs s.now at low result }
 {
     if 13 <= s.len() - at && fits_clock(s, at) {
         let time = time_at(s, at);
         if low <= time {
-            return Stamped::Time {
-                next: at + 13,
-                time,
-            };
+            return Ok((at + 13, time));
         }
     }
     spell_time(s, at, low)

@@ -14,7 +14,7 @@ use lib.Seq.{drop-cons}
 use borrow.Author.Tests.{eq-eqb, ne_eqb, eqb-true, not-true}
 use Rattle.base.specs.Choice.{pick, both}
 use Rattle.base.proofs.Choice.{by-test, both_left, both_right, true-false}
-use Rattle.profile.specs.declared.Spot.TheVariants.{Past, Bad}
+use Rattle.profile.specs.Spot.{Past, Bad}
 use Rattle.profile.specs.Machine.{State, at, Amp, AmpL, lit, find, escapes, escapes_l, step}
 use Rattle.profile.specs.Readings.{Reads, Anywhere, goes_on}
 use Rattle.profile.proofs.Readings.{r-here, r-dead, byte_step, on-byte, on-dead, on-end}

@@ -1,26 +1,21 @@
 -- Laws for a file by what C answered. The machine reads the descriptor back as z.
 use Prim.Native.Nat.{◌<◌, ◌^◌}
-use mathlib.Core.Path.{◌≡◌, refl, ap, ◌∙◌}
+use mathlib.Core.Path.{◌≡◌, refl, sym, ap, ◌∙◌}
 use mathlib.Core.Bool.{Bool, true, false}
 use native.Mathlib.Omega.{arith}
 use lib.Dec.{eqb}
 use lib.IntN.{ℤ, pos, negsuc}
-use lib.Signed.{lt_z, non_neg}
+use lib.Signed.{le_z, non_neg}
 use mir.Syntax.{w64}
 use mir.Val.{SFits, of_z}
-use borrow.Author.Tests.{ltb-true, ne_eqb}
+use borrow.Author.Tests.{le-leb, ne_eqb}
 use Rattle.base.specs.Choice.{both}
-use Rattle.base.proofs.Choice.{true-false}
 use Rattle.report.specs.Report.{at_end, whole}
 use Rattle.report.specs.declared.Taken.{Taken}
 
-negative : (z : ℤ) → lt_z z (pos 0) ≡ true → false ≡ non_neg z
-negative (pos k) h = let l = ltb-true k 0 h in absurd (omega arith)
-negative (negsuc k) h = refl
-
-opened : (z : ℤ) → lt_z z (pos 0) ≡ false → true ≡ non_neg z
-opened (pos k) h = refl
-opened (negsuc k) h = true-false true refl h
+sign : (z : ℤ) → le_z (pos 0) z ≡ non_neg z
+sign (pos k) = le-leb 0 k (omega arith)
+sign (negsuc k) = refl
 
 -- the bits of an answer are 0 exactly at the end
 at-end : (z : ℤ) → SFits w64 z → eqb (of_z w64 z) 0 ≡ at_end z
@@ -28,10 +23,10 @@ at-end (pos k) f = refl
 at-end (negsuc k) f = ne_eqb (of_z w64 (negsuc k)) 0 (λ e. let l : k < 2 ^ 63 = f.sfits in omega (arith, e, l))
 
 module _ (file : Taken) {z : ℤ} (e : z ≡ file.fd) where
-  pub not_opened : lt_z z (pos 0) ≡ true → false ≡ whole file
+  pub not_opened : le_z (pos 0) z ≡ false → le_z (pos 0) z ≡ whole file
   unfolding whole
-  not_opened h = ap (λ (b : Bool). both b (at_end file.more)) (negative z h ∙ ap non_neg e)
+  not_opened h = h ∙ ap (λ (b : Bool). both b (at_end file.more)) (sym h ∙ sign z ∙ ap non_neg e)
 
-  pub was-opened : lt_z z (pos 0) ≡ false → SFits w64 file.more → eqb (of_z w64 file.more) 0 ≡ whole file
+  pub was-opened : le_z (pos 0) z ≡ true → SFits w64 file.more → eqb (of_z w64 file.more) 0 ≡ whole file
   unfolding whole
-  was-opened h f = at-end file.more f ∙ ap (λ (b : Bool). both b (at_end file.more)) (opened z h ∙ ap non_neg e)
+  was-opened h f = at-end file.more f ∙ ap (λ (b : Bool). both b (at_end file.more)) (sym h ∙ sign z ∙ ap non_neg e)

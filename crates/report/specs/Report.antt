@@ -1,18 +1,17 @@
 -- What the program prints.
+use Rattle.std.specs.Prelude.{Ok}
 use Rattle.std.specs.Prelude.{ℕ, List, Bool, false, leb, eqb, ℤ, pos, negsuc, length, take}
 use Rattle.std.specs.Int.Signed.{non_neg}
 use Rattle.base.specs.Choice.{pick, both}
 use Rattle.listing.specs.Listing.{rows_text, refusal_text}
-use Rattle.input.specs.declared.Line.{Line}
-use Rattle.input.specs.declared.Line.TheVariants.{Numbers, Bad}
-use Rattle.pack.specs.declared.Packed.{Packed}
-use Rattle.pack.specs.declared.Packed.TheVariants.{Done, Refused}
+use Rattle.input.specs.Line.{Line, Numbers, Bad}
+use Rattle.pack.specs.Packed.{Packed, Done, Refused}
 use Rattle.pack.specs.Packing.{packed_track, table_bytes, packed_of}
 use Rattle.report.specs.declared.Taken.{Taken}
 
 -- the lines of a packed table, or of a refusal
 abbrev pub packed_text : Packed → List ℕ → List ℕ
-packed_text (Done n t b) table = rows_text table n
+packed_text (Ok x) table = rows_text table x.samples
 packed_text (Refused r) table = refusal_text r.number r.place
 
 -- packing, with room for 2,049 samples and 65,536 bytes of them

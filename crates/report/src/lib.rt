@@ -7,9 +7,10 @@ ghost use Rattle.base.specs.Over.{over};
 ghost use Rattle.pack.specs.Writing.{count_of};
 ghost use Rattle.report.specs.Report.{packed_text, list_text, usable, answer_text, whole, output_text};
 
-use input::Line;
 use listing::{put_refusal, put_rows};
-use pack::{Packed, pack};
+use pack::pack;
+use table::Sizes;
+use verdict::Refusal;
 
 // What the system answered for a file: the descriptor of the open, how many bytes of it stand in the buffer, and what a read behind them answered.
 #[derive(Clone, Copy)]
@@ -20,17 +21,13 @@ pub struct Taken {
 }
 
 // The table's lines, or the refusal's; gives their length.
-fn put_packed(answer: Packed, table: &[u8], out: &mut [u8]) -> usize
+fn put_packed(answer: Result<Sizes, Refusal>, table: &[u8], out: &mut [u8]) -> usize
     requires { (count_of answer * 8 ≤ length table.now) × (count_of answer * 22 ≤ length out.old) × (40 ≤ length out.old) }
     ensures { (result ≡ length (packed_text answer table.now)) × (out.new ≡ over (packed_text answer table.now) out.old) }
 {
     match answer {
-        Packed::Done {
-            samples,
-            table: _,
-            bytes: _,
-        } => put_rows(table, samples, &mut *out),
-        Packed::Refused(why) => put_refusal(why.number, why.place, &mut *out),
+        Ok(sizes) => put_rows(table, sizes.samples, &mut *out),
+        Err(why) => put_refusal(why.number, why.place, &mut *out),
     }
 }
 
@@ -46,30 +43,32 @@ pub fn put_list(scale: u32, t: u32, records: &[u8], pool: &[u8], out: &mut [u8])
 }
 
 // Both files were read to their end, and neither is longer than 32 KiB.
+#[tactic(auto, unfolding(crate::specs::Report::usable))]
 fn are_usable(found: bool, records: &[u8], pool: &[u8]) -> bool
     ensures { result ≡ usable found records.now pool.now }
 {
-    if !found {
-        return false;
-    }
-    if 32768 < records.len() {
-        return false;
-    }
-    pool.len() <= 32768
+    found && records.len() <= 32768 && pool.len() <= 32768
 }
 
 // The answer to a line and two files, of which `found` says whether both were read to their end.
-pub fn put_answer(line: Line, found: bool, records: &[u8], pool: &[u8], out: &mut [u8]) -> usize
+pub fn put_answer(
+    line: Option<(u32, u32)>,
+    found: bool,
+    records: &[u8],
+    pool: &[u8],
+    out: &mut [u8],
+) -> usize
     requires { 45078 ≤ length out.old }
     ensures { (result ≡ length (answer_text line found records.now pool.now)) × (out.new ≡ over (answer_text line found records.now pool.now) out.old) × (result ≤ length out.new) }
 {
-    let Line::Numbers { scale, t } = line else {
+    let Some((scale, t)) = line else {
         return put_refusal(10, 0, &mut *out);
     };
     if are_usable(found, records, pool) {
-        return put_list(scale, t, records, pool, &mut *out);
+        put_list(scale, t, records, pool, &mut *out)
+    } else {
+        put_refusal(9, 0, &mut *out)
     }
-    put_refusal(9, 0, &mut *out)
 }
 
 // The file was opened and read to its end, where a read answers 0. One that fails answers -1, as that of a folder does.
@@ -78,24 +77,12 @@ fn is_whole(file: Taken) -> bool
 {
     let fd = file.fd;
     let more = file.more;
-    if fd < 0 {
-        return false;
-    }
-    more == 0
-}
-
-fn are_both(a: bool, b: bool) -> bool
-    ensures { result ≡ both a b }
-{
-    if a {
-        return b;
-    }
-    false
+    fd >= 0 && more == 0
 }
 
 // The program's whole output: the line, and both files by what the system answered for them.
 pub fn put_output(
-    line: Line,
+    line: Option<(u32, u32)>,
     first: Taken,
     second: Taken,
     records: &[u8],
@@ -107,6 +94,6 @@ pub fn put_output(
 {
     let n = first.n;
     let m = second.n;
-    let found = are_both(is_whole(first), is_whole(second));
+    let found = is_whole(first) && is_whole(second);
     put_answer(line, found, &records[..n], &pool[..m], &mut *out)
 }

@@ -18,7 +18,7 @@ use Rattle.timeline.specs.Lists.{listed}
 use Rattle.timeline.specs.Cues.{Cue, same_id}
 use Rattle.timeline.specs.Unpacking.{no_cue, index_of}
 use Rattle.timeline.proofs.Listing.{length-listed, listed_at}
-use Rattle.wvtt_cues.specs.declared.Part.{Part}
+use Rattle.boxes.specs.declared.Part.{Part}
 use Rattle.wvtt_cues.specs.declared.Parts.{Parts}
 use Rattle.wvtt_cues.specs.Cues.{text_of, held_by}
 use Rattle.wvtt_cues.specs.Walk.{Within, Inside}

@@ -1,11 +1,11 @@
 -- Terms of the contracts of functions that unpacking and the reader of files call: the table of the cues that are known, nine numbers for each, and the lists of
 -- cues that it stands for.
-use Rattle.std.specs.Prelude.{ℕ, ◌+◌, ◌*◌, ◌≤◌, ◌<◌, ◌≢◌, Bool, true, List, [], ◌∷◌, leb, ltb, eqb, get_or}
+use Rattle.std.specs.Prelude.{ℕ, ◌+◌, ◌*◌, ◌≤◌, ◌<◌, ◌≡◌, ◌≢◌, Bool, true, Option, Some, None, Result, Ok, Err, List, [], ◌∷◌, leb, ltb, eqb, get_or}
 use Rattle.std.proofs.Math.Option.{none, some}
 use Rattle.base.specs.Choice.{pick, both, same_list}
 use Rattle.timeline.specs.Lists.{listed}
 use Rattle.timeline.specs.Cues.{Body, Cue}
-use Rattle.wvtt_cues.specs.declared.Part.{Part}
+use Rattle.boxes.specs.declared.Part.{Part}
 use Rattle.wvtt_cues.specs.declared.Parts.{Parts}
 use Rattle.wvtt_cues.specs.Cues.{text_of}
 use Rattle.wvtt_cues.specs.Walk.{Within}
@@ -66,14 +66,14 @@ same_texts samples x y =
     both (same_list (text_of samples x.identifier) (text_of samples y.identifier))
     (both (same_list (text_of samples x.settings) (text_of samples y.settings)) (same_list (text_of samples x.payload) (text_of samples y.payload)))
 
--- a cue y whose ID stands in row j, that is x: twice in the sample (12), back after a gap (13), other texts (14), out of order (11), or 0
-unfoldable pub again_number : List ℕ → Row → Row → ℕ → ℕ → ℕ
-again_number samples x y k j =
-    pick (eqb x.end y.end) 12
-    (pick (ltb x.end y.start) 13
+-- a cue y whose ID stands in row j, that is x: twice in the sample (12), back after a gap (13), other texts (14), out of order (11), or nothing is wrong
+unfoldable pub judged_again : List ℕ → Row → Row → ℕ → ℕ → Result (Unit {0}) ℕ
+judged_again samples x y k j =
+    pick (eqb x.end y.end) (Err 12)
+    (pick (ltb x.end y.start) (Err 13)
     (pick (same_texts samples x y)
-    (pick (leb k j) 0 11)
-    14))
+    (pick (leb k j) (Ok tt) (Err 11))
+    (Err 14)))
 
 -- the texts of a row lie within l bytes
 pub record Placed (l : ℕ) (r : Row) : Type 0 where
@@ -84,6 +84,11 @@ pub record Placed (l : ℕ) (r : Row) : Type 0 where
 -- no row from j to n has this ID
 abbrev pub Missing : List ℕ → ℕ → ℕ → ℕ → Type 0
 Missing tab j n id = (i : ℕ) → j ≤ i → i < n → (row_at tab i).id ≢ id
+
+-- one of the first n rows has this ID, or none has
+abbrev pub Finds : List ℕ → ℕ → ℕ → Option ℕ → Type 0
+Finds tab n id (Some j) = (j < n) × ((row_at tab j).id ≡ id)
+Finds tab n id None = Missing tab 0 n id
 
 -- the first n rows: their texts lie within l bytes, and no two have one ID
 pub record Good (l : ℕ) (tab : List ℕ) (n : ℕ) : Type 0 where

@@ -13,8 +13,7 @@ use Rattle.input.specs.Reading.{line_at}
 use Rattle.input.specs.Reads.{Read, chunk_of, if_last, line_by}
 use Rattle.input.specs.declared.Reading.{Reading}
 use Rattle.input.specs.declared.Chunk.{Chunk}
-use Rattle.input.specs.declared.Line.{Line}
-use Rattle.input.specs.declared.Line.TheVariants.{Bad}
+use Rattle.input.specs.Line.{Line, Bad}
 use Rattle.sample_table.specs.Reads.{Moved, Allowed, AllAllowed, ByOneRead, ByReads}
 
 all-with : (xs : List Read) (x : Read) → AllAllowed xs → Allowed x → AllAllowed (xs ++ x ∷ [])

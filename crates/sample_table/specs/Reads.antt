@@ -3,7 +3,7 @@ use Rattle.std.specs.Prelude.{ℕ, ◌≡◌, ◌≤◌, List, [], ◌∷◌, le
 use Rattle.input.specs.Reads.{Read, chunk_from, line_by}
 use Rattle.input.specs.declared.Reading.{Reading}
 use Rattle.input.specs.declared.Chunk.{Chunk}
-use Rattle.input.specs.declared.Line.{Line}
+use Rattle.input.specs.Line.{Line}
 
 -- what a read into n bytes may answer: how many it moved, at most n, or -1
 abbrev pub Moved : ℕ → ℤ → Type 0

@@ -5,7 +5,7 @@
 ghost use Rattle.std.specs.Prelude.{◌≤◌, length};
 ghost use Rattle.sample_table.specs.Reads.{Moved, ByOneRead, ByReads};
 
-use input::{Chunk, Line, Reading, finish, take_read};
+use input::{Chunk, Reading, finish, take_read};
 use report::{Taken, put_output};
 use std::fs;
 use std::io::Read;
@@ -48,7 +48,7 @@ fn read_chunk(input: &mut impl Read, state: Reading) -> Chunk
 }
 
 // The input line, of which `state` is read. One that takes more than 4294967295 reads is a bad one.
-fn read_line(input: &mut impl Read, state: Reading) -> Line
+fn read_line(input: &mut impl Read, state: Reading) -> Option<(u32, u32)>
     ensures { ByReads state result }
 {
     let mut reached = state;
@@ -59,7 +59,7 @@ fn read_line(input: &mut impl Read, state: Reading) -> Line
             return finish(reached);
         }
     }
-    Line::Bad
+    None
 }
 
 // The start of a file, as much as the buffer holds, and one read more.

@@ -19,11 +19,9 @@ use Rattle.text.specs.Beginnings.{identifier_begun}
 use Rattle.timestamps.specs.Timestamps.{All}
 use Rattle.vtt_timing.specs.Timing.{blank, unblank}
 use Rattle.vtt_timing.proofs.Grammar.{blank-unblank}
-use Rattle.settings.specs.declared.Parsed.{Parsed}
-use Rattle.settings.specs.declared.Parsed.TheVariants.{Malformed}
+use Rattle.settings.specs.Word.{Word, Malformed}
 use Rattle.settings.specs.declared.Reading.{Reading}
-use Rattle.settings.specs.declared.Read.{Read}
-use Rattle.settings.specs.declared.Read.TheVariants.{Done, Refused}
+use Rattle.settings.specs.Read.{Read, Done, Refused}
 use Rattle.settings.specs.Words.{REGION}
 use Rattle.settings.specs.Grammar.{Setting, vertical, line, position, size, align, region, Says, is_vertical, is_line, is_aligned_line, is_position, is_aligned_position, is_size, is_align, is_region, Apart, Text, blanks, setting, name_of, Among, Once, placed, record_of, SettingsText, Ended, WrongAt}
 use Rattle.settings.specs.Reading.{words, parsed, name_in, has, amiss, taken, unless_amiss, read_words, unread, read_settings, said}
@@ -94,7 +92,7 @@ refused-next : (p : ℕ) (w : List ℕ) (ws : List (ℕ × List ℕ)) (m : List 
 unfolding read_words
 refused-next p w ws m x f = go (spoken p w)
   where
-    amiss-so : (q : Parsed) → parsed p w ≡ q → amiss q (map name_of m) ≡ true
+    amiss-so : (q : Word) → parsed p w ≡ q → amiss q (map name_of m) ≡ true
         → unless_amiss (amiss (parsed p w) (map name_of m)) p (λ _. read_words ws (name_in (parsed p w) ∷ map name_of m) (taken (parsed p w) x)) ≡ Refused (fault 20 p)
     amiss-so q e a = rw (e, a)
 

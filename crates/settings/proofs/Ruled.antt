@@ -9,7 +9,7 @@ use Rattle.text.proofs.Rules.{empty-line}
 use Rattle.timestamps.specs.Timestamps.{All}
 use Rattle.vtt_timing.specs.Timing.{blank}
 use Rattle.settings.specs.declared.Reading.{Reading}
-use Rattle.settings.specs.declared.Read.TheVariants.{Done}
+use Rattle.settings.specs.Read.{Done}
 use Rattle.settings.specs.Grammar.{Setting, vertical, line, position, size, align, region, Text, blanks, setting, name_of, Among, Once, Record, placed, record_of}
 use Rattle.settings.specs.Reading.{words, read_words, unread, said}
 use Rattle.settings.proofs.Form.{region_in, word_line}

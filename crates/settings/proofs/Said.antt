@@ -30,8 +30,7 @@ use Rattle.settings.specs.declared.PositionAlign.{PositionAlign}
 use Rattle.settings.specs.declared.PositionAlign.TheVariants.{Auto as PositionAuto, LineLeft, Center as PositionCenter, LineRight}
 use Rattle.settings.specs.declared.Align.{Align}
 use Rattle.settings.specs.declared.Align.TheVariants.{Start, Center, End, Left, Right}
-use Rattle.settings.specs.declared.Parsed.{Parsed}
-use Rattle.settings.specs.declared.Parsed.TheVariants.{Vertical as ToVertical, Line as ToLine, Position as ToPosition, Size as ToSize, Align as ToAlign, Region as ToRegion, Malformed}
+use Rattle.settings.specs.Word.{Word, ToVertical, ToLine, ToPosition, ToSize, ToAlign, ToRegion, Malformed}
 use Rattle.settings.specs.Words.{SPACE, TAB, COMMA, VERTICAL, LINE, POSITION, SIZE, ALIGN, REGION, verticals, vertical_word, line_aligns, line_word, position_aligns, position_word, aligns, align_word}
 use Rattle.settings.specs.Grammar.{Percentage, LineAt, number, percent, named, Setting, vertical, line, position, size, align, region, Says, is_vertical, is_line, is_aligned_line, is_position, is_aligned_position, is_size, is_align, is_region}
 use Rattle.settings.specs.Reading.{word_in, percent_of, line_of, as_vertical, as_align, as_size, as_line, not_comma, aligned_by, line_parsed, position_parsed, region_parsed, parsed}
@@ -40,7 +39,7 @@ use Rattle.settings.proofs.Form.{vertical-safe, line-word-safe, position-word-sa
 use Rattle.settings.proofs.Values.{word-found, percent-comma, percent-read, percent-says, line-comma, line_read, line-says}
 
 -- a setting as it is read from a word at place p
-abbrev pub coded : ℕ → Setting → Parsed
+abbrev pub coded : ℕ → Setting → Word
 coded p (vertical v) = ToVertical v
 coded p (line l a) = ToLine l a
 coded p (position q a) = ToPosition q a

@@ -7,7 +7,7 @@ use Rattle.settings.specs.declared.LineAlign.TheVariants.{Start as LineStart, En
 use Rattle.settings.specs.declared.Position.TheVariants.{Auto, Percent}
 use Rattle.settings.specs.declared.PositionAlign.TheVariants.{Auto as PositionAuto, LineLeft}
 use Rattle.settings.specs.declared.Align.TheVariants.{Start, Center}
-use Rattle.settings.specs.declared.Read.TheVariants.{Done, Refused}
+use Rattle.settings.specs.Read.{Done, Refused}
 use Rattle.settings.specs.Reading.{read_settings}
 use Rattle.settings.specs.Form.{written, writable}
 

@@ -1,3 +1,5 @@
+pub mod Word
+pub mod Read
 pub mod Words
 pub mod Grammar
 pub mod Reading

@@ -3,8 +3,7 @@ use Rattle.std.specs.Prelude.{ℕ, suc, ◌+◌, ◌-◌, ◌*◌, Bool, true, f
 use Rattle.std.proofs.Math.Option.{Option, none, some}
 use Rattle.base.specs.Choice.{pick, both, any_of, same_list}
 use Rattle.viable.specs.FirstBad.{judged_by}
-use Rattle.verdict.specs.declared.Verdict.{Verdict}
-use Rattle.verdict.specs.declared.Verdict.TheVariants.{Fine, Refused as Faulty}
+use Rattle.verdict.specs.Verdict.{Verdict, Fine, Refused as Faulty}
 use Rattle.verdict.specs.Judgement.{fault, text_at, ◌gives◌at◌, ◌then◌}
 use Rattle.decimal.specs.Decimal.{value}
 use Rattle.utf8.specs.Strings.{DASH, starts_with}
@@ -21,11 +20,9 @@ use Rattle.settings.specs.declared.Position.TheVariants.{Percent}
 use Rattle.settings.specs.declared.PositionAlign.{PositionAlign}
 use Rattle.settings.specs.declared.PositionAlign.TheVariants.{Auto as PositionAuto}
 use Rattle.settings.specs.declared.Align.{Align}
-use Rattle.settings.specs.declared.Parsed.{Parsed}
-use Rattle.settings.specs.declared.Parsed.TheVariants.{Vertical as ToVertical, Line as ToLine, Position as ToPosition, Size as ToSize, Align as ToAlign, Region as ToRegion, Malformed}
+use Rattle.settings.specs.Word.{Word, ToVertical, ToLine, ToPosition, ToSize, ToAlign, ToRegion, Malformed}
 use Rattle.settings.specs.declared.Reading.{Reading}
-use Rattle.settings.specs.declared.Read.{Read}
-use Rattle.settings.specs.declared.Read.TheVariants.{Done, Refused}
+use Rattle.settings.specs.Read.{Read, Done, Refused}
 use Rattle.settings.specs.Words.{COMMA, PERCENT, VERTICAL, LINE, POSITION, SIZE, ALIGN, REGION, verticals, vertical_word, line_aligns, line_word, position_aligns, position_word, aligns, align_word}
 use Rattle.settings.specs.Grammar.{Record, named, defaults, with_vertical, with_line, with_position, with_size, with_align}
 
@@ -84,20 +81,20 @@ line_of (b ∷ w) = pick (eqb b DASH) (number_of 32768 (λ n. neg_ℤ (pos n)) w
 
 -- ---- a word as a setting
 
-abbrev pub as_vertical : Option Vertical → Parsed
+abbrev pub as_vertical : Option Vertical → Word
 as_vertical none = Malformed
 as_vertical (some v) = ToVertical v
 
-abbrev pub as_align : Option Align → Parsed
+abbrev pub as_align : Option Align → Word
 as_align none = Malformed
 as_align (some a) = ToAlign a
 
-abbrev pub as_size : Option ℕ → Parsed
+abbrev pub as_size : Option ℕ → Word
 as_size none = Malformed
 as_size (some p) = ToSize p
 
 -- a line and its alignment
-abbrev pub as_line : Line → Option LineAlign → Parsed
+abbrev pub as_line : Line → Option LineAlign → Word
 as_line LineAuto a = Malformed
 as_line (Number n) none = Malformed
 as_line (Number n) (some a) = ToLine (Number n) a
@@ -105,7 +102,7 @@ as_line (LinePercent p) none = Malformed
 as_line (LinePercent p) (some a) = ToLine (LinePercent p) a
 
 -- a position and its alignment
-abbrev pub as_position : Option ℕ → Option PositionAlign → Parsed
+abbrev pub as_position : Option ℕ → Option PositionAlign → Word
 as_position none a = Malformed
 as_position (some p) none = Malformed
 as_position (some p) (some a) = ToPosition (Percent p) a
@@ -119,18 +116,18 @@ abbrev pub aligned_by : {A : Type 0} → A → (List ℕ → Option A) → List 
 aligned_by d word [] = some d
 aligned_by d word (c ∷ w) = word w
 
-unfoldable pub line_parsed : List ℕ → Parsed
+unfoldable pub line_parsed : List ℕ → Word
 line_parsed w = as_line (line_of (front not_comma w)) (aligned_by LineStart (word_in line_word line_aligns) (behind not_comma w))
 
-unfoldable pub position_parsed : List ℕ → Parsed
+unfoldable pub position_parsed : List ℕ → Word
 position_parsed w = as_position (percent_of (front not_comma w)) (aligned_by PositionAuto (word_in position_word position_aligns) (behind not_comma w))
 
 -- a region's name, which stands from place p on
-unfoldable pub region_parsed : ℕ → List ℕ → Parsed
+unfoldable pub region_parsed : ℕ → List ℕ → Word
 region_parsed p w = pick (both (leb 1 (length w)) (leb (length w) (length (front named w)))) (ToRegion p (p + length w)) Malformed
 
 -- the word w at place p
-unfoldable pub parsed : ℕ → List ℕ → Parsed
+unfoldable pub parsed : ℕ → List ℕ → Word
 parsed p w =
     pick (starts_with VERTICAL w) (as_vertical (word_in vertical_word verticals (drop 9 w)))
     (pick (starts_with LINE w) (line_parsed (drop 5 w))
@@ -142,7 +139,7 @@ parsed p w =
 -- ---- the text
 
 -- the names, by number; what is malformed has none
-abbrev pub name_in : Parsed → ℕ
+abbrev pub name_in : Word → ℕ
 name_in (ToVertical v) = 0
 name_in (ToLine l a) = 1
 name_in (ToPosition p a) = 2
@@ -157,12 +154,12 @@ has n [] = false
 has n (m ∷ ms) = any_of (eqb n m) (has n ms)
 
 -- a word that may not stand behind settings of these names
-unfoldable pub amiss : Parsed → List ℕ → Bool
+unfoldable pub amiss : Word → List ℕ → Bool
 unfolding has
 amiss t names = any_of (eqb (name_in t) 6) (has (name_in t) names)
 
 -- a setting in its place
-abbrev pub taken : Parsed → Reading → Reading
+abbrev pub taken : Word → Reading → Reading
 taken (ToVertical v) r = record { settings = with_vertical v r.settings; from = r.from; end = r.end }
 taken (ToLine l a) r = record { settings = with_line l a r.settings; from = r.from; end = r.end }
 taken (ToPosition p a) r = record { settings = with_position p a r.settings; from = r.from; end = r.end }

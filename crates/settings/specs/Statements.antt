@@ -3,7 +3,7 @@ use Rattle.std.specs.Prelude.{ℕ, ◌≤◌, ◌≡◌, ◌↔◌, true, false,
 use Rattle.verdict.specs.Judgement.{fault}
 use Rattle.text.specs.Rules.{identifier_text}
 use Rattle.settings.specs.declared.Reading.{Reading}
-use Rattle.settings.specs.declared.Read.TheVariants.{Done, Refused}
+use Rattle.settings.specs.Read.{Done, Refused}
 use Rattle.settings.specs.Grammar.{Record, SettingsText, WrongAt}
 use Rattle.settings.specs.Reading.{words, read_words, unread, read_settings, said}
 use Rattle.settings.specs.Form.{written, writable}

@@ -70,7 +70,6 @@ pub enum Parsed {
     Size(u16),
     Align(Align),
     Region { from: usize, end: usize },
-    Malformed,
 }
 
 // What was read: the settings, and where the region's name stands in the text; from 0 to 0 where there is none.
@@ -79,11 +78,4 @@ pub struct Reading {
     pub settings: Settings,
     pub from: usize,
     pub end: usize,
-}
-
-// The answer of reading.
-#[derive(Clone, Copy)]
-pub enum Read {
-    Done(Reading),
-    Refused(Refusal),
 }

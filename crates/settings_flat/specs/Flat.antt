@@ -3,8 +3,7 @@ use Rattle.std.specs.Prelude.{ℕ, Bool, List, eqb, leb, ℤ, pos}
 use Rattle.base.specs.Choice.{pick, both}
 use Rattle.verdict.specs.declared.Refusal.{Refusal}
 use Rattle.verdict.specs.Judgement.{fault}
-use Rattle.wvtt_entry_write.specs.declared.Written.{Written}
-use Rattle.wvtt_entry_write.specs.declared.Written.TheVariants.{Refused as NotWritten}
+use Rattle.wvtt_entry_write.specs.Written.{Written, Refused as NotWritten}
 use Rattle.wvtt_entry_write.specs.Writing.{lent}
 use Rattle.settings.specs.declared.Vertical.{Vertical}
 use Rattle.settings.specs.declared.Vertical.TheVariants.{None, Rl, Lr}
@@ -20,8 +19,7 @@ use Rattle.settings.specs.declared.Align.{Align}
 use Rattle.settings.specs.declared.Align.TheVariants.{Start, Center, End, Left, Right}
 use Rattle.settings.specs.declared.Settings.{Settings}
 use Rattle.settings.specs.declared.Reading.{Reading}
-use Rattle.settings.specs.declared.Read.{Read}
-use Rattle.settings.specs.declared.Read.TheVariants.{Done, Refused}
+use Rattle.settings.specs.Read.{Read, Done, Refused}
 use Rattle.settings_write.specs.Writing.{settings_room}
 use Rattle.settings_flat.specs.declared.CaptionsSettings.{CaptionsSettings}
 use Rattle.settings_flat.specs.declared.CaptionsSettingsRead.{CaptionsSettingsRead}

@@ -8,16 +8,13 @@ ghost use Rattle.settings.specs.Form.{written};
 ghost use Rattle.settings_write.specs.Writing.{record_with};
 ghost use Rattle.settings_flat.specs.Flat.{flat_vertical, flat_line_align, flat_position_align, flat_align, line_kind, line_number, line_percent, position_kind, position_percent, flat_settings, no_settings, flat_done, flat_read, vertical_of, line_of, line_align_of, position_of, position_align_of, align_of, known, settings_of, given_room, given_written};
 
-use settings::{
-    Align, Line, LineAlign, Position, PositionAlign, Read, Reading, Settings, Vertical,
-};
+use settings::{Align, Line, LineAlign, Position, PositionAlign, Reading, Settings, Vertical};
 use settings_write::{settings_room, write_settings};
-use verdict::{Refusal, fault_at};
-use wvtt_entry_write::Written;
+use verdict::{Reason, Refusal};
 
 // What stands beside another kind of line or position is 0 from reading, and not looked at in writing.
 #[repr(C)]
-#[derive(Clone, Copy)]
+#[derive(Clone, Copy, Default)]
 pub struct CaptionsSettings {
     pub vertical: u8,
     pub line: u8,
@@ -32,7 +29,7 @@ pub struct CaptionsSettings {
 }
 
 #[repr(C)]
-#[derive(Clone, Copy)]
+#[derive(Clone, Copy, Default)]
 pub struct CaptionsSettingsRead {
     pub refusal: Refusal,
     pub settings: CaptionsSettings,
@@ -40,6 +37,7 @@ pub struct CaptionsSettingsRead {
     pub region_end: usize,
 }
 
+// The numbers of values are the C interface's alone: they stand here and not as `From` beside the enums.
 fn flat_vertical(v: Vertical) -> u8
     ensures { result ≡ flat_vertical v }
 {
@@ -97,9 +95,8 @@ fn line_number(l: Line) -> i16
     ensures { (result ≡ line_number l) × (mag result < 32768) }
 {
     match l {
-        Line::Auto => 0,
         Line::Number(n) => n,
-        Line::Percent(_) => 0,
+        _ => 0,
     }
 }
 
@@ -107,9 +104,8 @@ fn line_percent(l: Line) -> u16
     ensures { result ≡ line_percent l }
 {
     match l {
-        Line::Auto => 0,
-        Line::Number(_) => 0,
         Line::Percent(p) => p,
+        _ => 0,
     }
 }
 
@@ -131,171 +127,132 @@ fn position_percent(p: Position) -> u16
     }
 }
 
-fn flat_settings(x: Settings) -> CaptionsSettings
-    ensures { result ≡ flat_settings x }
-{
-    let vertical = x.vertical;
-    let line = x.line;
-    let line_align = x.line_align;
-    let position = x.position;
-    let position_align = x.position_align;
-    let align = x.align;
-    CaptionsSettings {
-        vertical: flat_vertical(vertical),
-        line: line_kind(line),
-        line_align: flat_line_align(line_align),
-        position: position_kind(position),
-        position_align: flat_position_align(position_align),
-        align: flat_align(align),
-        line_number: line_number(line),
-        line_percent: line_percent(line),
-        position_percent: position_percent(position),
-        size: x.size,
+impl From<Settings> for CaptionsSettings {
+    ghost from_gives = { λ x r. r ≡ flat_settings x };
+
+    #[tactic(auto, unfolding(crate::specs::Flat::flat_settings))]
+    fn from(x: Settings) -> Self {
+        Self {
+            vertical: flat_vertical(x.vertical),
+            line: line_kind(x.line),
+            line_align: flat_line_align(x.line_align),
+            position: position_kind(x.position),
+            position_align: flat_position_align(x.position_align),
+            align: flat_align(x.align),
+            line_number: line_number(x.line),
+            line_percent: line_percent(x.line),
+            position_percent: position_percent(x.position),
+            size: x.size,
+        }
     }
 }
 
-fn no_settings(why: Refusal) -> CaptionsSettingsRead
-    ensures { result ≡ no_settings why }
-{
-    CaptionsSettingsRead {
-        refusal: why,
-        settings: CaptionsSettings {
-            vertical: 0,
-            line: 0,
-            line_align: 0,
-            position: 0,
-            position_align: 0,
-            align: 0,
-            line_number: 0,
-            line_percent: 0,
-            position_percent: 0,
-            size: 0,
-        },
-        region_from: 0,
-        region_end: 0,
-    }
-}
+impl From<Result<Reading, Refusal>> for CaptionsSettingsRead {
+    ghost from_gives = { λ a r. r ≡ flat_read a };
 
-fn flat_done(x: Reading) -> CaptionsSettingsRead
-    ensures { result ≡ flat_done x }
-{
-    let settings = x.settings;
-    CaptionsSettingsRead {
-        refusal: fault_at(0, 0),
-        settings: flat_settings(settings),
-        region_from: x.from,
-        region_end: x.end,
+    #[tactic(auto, unfolding(verdict::specs::Judgement::fault))]
+    fn from(a: Result<Reading, Refusal>) -> Self {
+        match a {
+            Ok(x) => Self {
+                settings: x.settings.into(),
+                region_from: x.from,
+                region_end: x.end,
+                ..Self::default()
+            },
+            Err(refusal) => Self {
+                refusal,
+                ..Self::default()
+            },
+        }
     }
 }
 
 // The answer of reading.
-pub fn flat_read(a: Read) -> CaptionsSettingsRead
+pub fn flat_read(a: Result<Reading, Refusal>) -> CaptionsSettingsRead
     ensures { result ≡ flat_read a }
 {
-    match a {
-        Read::Done(x) => flat_done(x),
-        Read::Refused(why) => no_settings(why),
-    }
+    a.into()
 }
 
 // Whether each number is one of a value.
+#[tactic(auto, unfolding(crate::specs::Flat::known))]
 fn is_known(x: CaptionsSettings) -> bool
     ensures { result ≡ known x }
 {
-    if 2 < x.vertical {
-        return false;
-    }
-    if 2 < x.line {
-        return false;
-    }
-    if 2 < x.line_align {
-        return false;
-    }
-    if 1 < x.position {
-        return false;
-    }
-    if 3 < x.position_align {
-        return false;
-    }
-    x.align <= 4
+    x.vertical <= 2
+        && x.line <= 2
+        && x.line_align <= 2
+        && x.position <= 1
+        && x.position_align <= 3
+        && x.align <= 4
 }
 
+#[tactic(auto, unfolding(crate::specs::Flat::vertical_of))]
 fn vertical_of(n: u8) -> Vertical
     ensures { result ≡ vertical_of n }
 {
-    if n == 0 {
-        return Vertical::None;
+    match n {
+        0 => Vertical::None,
+        1 => Vertical::Rl,
+        _ => Vertical::Lr,
     }
-    if n == 1 {
-        return Vertical::Rl;
-    }
-    Vertical::Lr
 }
 
+#[tactic(auto, unfolding(crate::specs::Flat::line_of))]
 fn line_of(kind: u8, number: i16, percent: u16) -> Line
     ensures { result ≡ line_of kind number percent }
 {
-    if kind == 0 {
-        return Line::Auto;
+    match kind {
+        0 => Line::Auto,
+        1 => Line::Number(number),
+        _ => Line::Percent(percent),
     }
-    if kind == 1 {
-        return Line::Number(number);
-    }
-    Line::Percent(percent)
 }
 
+#[tactic(auto, unfolding(crate::specs::Flat::line_align_of))]
 fn line_align_of(n: u8) -> LineAlign
     ensures { result ≡ line_align_of n }
 {
-    if n == 0 {
-        return LineAlign::Start;
+    match n {
+        0 => LineAlign::Start,
+        1 => LineAlign::Center,
+        _ => LineAlign::End,
     }
-    if n == 1 {
-        return LineAlign::Center;
-    }
-    LineAlign::End
 }
 
+#[tactic(auto, unfolding(crate::specs::Flat::position_of))]
 fn position_of(kind: u8, percent: u16) -> Position
     ensures { result ≡ position_of kind percent }
 {
-    if kind == 0 {
-        return Position::Auto;
+    match kind {
+        0 => Position::Auto,
+        _ => Position::Percent(percent),
     }
-    Position::Percent(percent)
 }
 
+#[tactic(auto, unfolding(crate::specs::Flat::position_align_of))]
 fn position_align_of(n: u8) -> PositionAlign
     ensures { result ≡ position_align_of n }
 {
-    if n == 0 {
-        return PositionAlign::Auto;
+    match n {
+        0 => PositionAlign::Auto,
+        1 => PositionAlign::LineLeft,
+        2 => PositionAlign::Center,
+        _ => PositionAlign::LineRight,
     }
-    if n == 1 {
-        return PositionAlign::LineLeft;
-    }
-    if n == 2 {
-        return PositionAlign::Center;
-    }
-    PositionAlign::LineRight
 }
 
+#[tactic(auto, unfolding(crate::specs::Flat::align_of))]
 fn align_of(n: u8) -> Align
     ensures { result ≡ align_of n }
 {
-    if n == 0 {
-        return Align::Start;
+    match n {
+        0 => Align::Start,
+        1 => Align::Center,
+        2 => Align::End,
+        3 => Align::Left,
+        _ => Align::Right,
     }
-    if n == 1 {
-        return Align::Center;
-    }
-    if n == 2 {
-        return Align::End;
-    }
-    if n == 3 {
-        return Align::Left;
-    }
-    Align::Right
 }
 
 // The settings that the numbers stand for.
@@ -314,21 +271,21 @@ fn settings_of(x: CaptionsSettings) -> Settings
 }
 
 // The bytes that settings need which are given by numbers.
-pub fn given_room(x: CaptionsSettings, region: &[u8]) -> Written
+pub fn given_room(x: CaptionsSettings, region: &[u8]) -> Result<usize, Refusal>
     ensures { result ≡ given_room x region.now }
 {
     if !is_known(x) {
-        return Written::Refused(fault_at(8, 0));
+        return Err(Reason::BadValue.fault_at(0));
     }
     settings_room(settings_of(x), region)
 }
 
 // Settings written that are given by numbers.
-pub fn write_given(x: CaptionsSettings, region: &[u8], out: &mut [u8]) -> Written
+pub fn write_given(x: CaptionsSettings, region: &[u8], out: &mut [u8]) -> Result<usize, Refusal>
     ensures { (result ≡ given_written x region.now (length out.old)) × (out.new ≡ after (given_written x region.now (length out.old)) (written (record_with (settings_of x) region.now)) out.old) }
 {
     if !is_known(x) {
-        return Written::Refused(fault_at(8, 0));
+        return Err(Reason::BadValue.fault_at(0));
     }
     write_settings(settings_of(x), region, &mut *out)
 }

@@ -13,7 +13,12 @@ use borrow.Author.Tests.{eqb-true, eqb-false, eq-eqb, le-ltb}
 use Rattle.base.specs.Choice.{pick, both, any_of}
 use Rattle.base.proofs.Choice.{by-test, both_left, both_right}
 use Rattle.base.proofs.Tests.{one-of-yes}
-use Rattle.verdict.specs.Judgement.{fault}
+use Rattle.viable.specs.Judged.{Judged}
+use Rattle.viable.specs.FirstBad.{judged_by}
+use Rattle.verdict.specs.declared.Refusal.{Refusal}
+use Rattle.verdict.specs.Verdict.{Verdict, Fine, Refused as Faulty}
+use Rattle.verdict.specs.Judgement.{fault, text_at}
+use Rattle.text.specs.Beginnings.{identifier_begun}
 use Rattle.text.specs.Rules.{identifier_text}
 use Rattle.text.proofs.Rules.{empty-line}
 use Rattle.timestamps.specs.Timestamps.{front, behind}
@@ -21,13 +26,12 @@ use Rattle.timestamps.proofs.Runs.{all-front, front-behind, behind-begins}
 use Rattle.vtt_timing.specs.Timing.{blank, unblank}
 use Rattle.vtt_timing.proofs.Laws.{run_end, run_more, front-part, behind-part}
 use Rattle.ascii.proofs.Blocks.{or-none}
-use Rattle.settings.specs.declared.Parsed.{Parsed}
+use Rattle.settings.specs.Word.{Word}
 use Rattle.settings.specs.declared.Reading.{Reading}
-use Rattle.settings.specs.declared.Read.TheVariants.{Done, Refused}
+use Rattle.settings.specs.Read.{Read, Done, Refused}
 use Rattle.settings.specs.Reading.{words, parsed, name_in, has, amiss, taken, unless_amiss, read_words, unread, read_settings}
 use Rattle.settings.proofs.Readings.{read-fine}
 use Rattle.settings.proofs.Ruled.{read_right}
-use Rattle.settings_read.specs.Terms.{ruled}
 use Rattle.settings.proofs.Splitting.{words-blank, words-word, begins-solid, ends-apart}
 
 -- ---- words by places
@@ -114,7 +118,7 @@ module _ (s : List ℕ) where
   ends marks x i h g = rw (drop_of_length-le s h) at g.rest
 
   -- the word from i to e, and its name k
-  module _ (marks : List ℕ) (x : Reading) (i e k : ℕ) (t : Parsed) (g : Going s marks x i) (h : i < length s)
+  module _ (marks : List ℕ) (x : Reading) (i e k : ℕ) (t : Word) (g : Going s marks x i) (h : i < length s)
       (is : e ≡ run_end unblank s i) (read : t ≡ parsed i (take (e - i) (drop i s))) (name : k ≡ name_in t) (few : k ≤ 6) where
     next : unless_amiss (amiss t g.names) i (λ _. read_words (words e (drop e s)) (name_in t ∷ g.names) (taken t x)) ≡ read_words (words 0 s) [] unread
     unfolding read_words
@@ -147,9 +151,13 @@ module _ (s : List ℕ) where
 -- ---- the rule of a line is judged before, and need not be where no region is read
 
 module _ (s : List ℕ) (few : length s ≤ 255) where
-  pub judged-before : ruled s (read_words (words 0 s) [] unread) ≡ read_settings s
-  unfolding ruled read_settings
-  judged-before = rw (le-ltb 255 (length s) few)
+  pub judged-good : (j : Judged) (v : Verdict) (a : Read) → j ≡ judged_by identifier_text identifier_begun s → v ≡ text_at 0 j → v ≡ Fine → a ≡ read_words (words 0 s) [] unread → a ≡ read_settings s
+  unfolding read_settings
+  judged-good j v a d e f g = rw (le-ltb 255 (length s) few, ← d, ← e, f) g
+
+  pub judged-faulty : (j : Judged) (v : Verdict) (why : Refusal) → j ≡ judged_by identifier_text identifier_begun s → v ≡ text_at 0 j → v ≡ Faulty why → Refused why ≡ read_settings s
+  unfolding read_settings
+  judged-faulty j v why d e f = rw (le-ltb 255 (length s) few, ← d, ← e, f)
 
   pub plainly-read : (x : Reading) → read_words (words 0 s) [] unread ≡ Done x → x.end ≡ 0 → Done x ≡ read_settings s
   plainly-read x e z =

@@ -1,4 +1,5 @@
 -- The values of settings by their bytes and by numbers that are kept within a limit.
+use Rattle.settings.specs.Word.{Malformed}
 use Prim.Native.Nat.{ℕ, zero, suc, ◌+◌, ◌-◌, ◌*◌, ◌^◌, ◌≤◌, ◌<◌, min}
 use mathlib.Core.Path.{◌≡◌, refl, sym, ap, ◌∙◌}
 use mathlib.Core.Bool.{Bool, true, false}
@@ -23,7 +24,6 @@ use Rattle.timestamps.proofs.Laws.{behind-drop}
 use Rattle.vtt_timing.proofs.Laws.{front-take}
 use Rattle.settings.specs.declared.Line.{Line}
 use Rattle.settings.specs.declared.Line.TheVariants.{Auto, Number, Percent as LinePercent}
-use Rattle.settings.specs.declared.Parsed.TheVariants.{Malformed}
 use Rattle.settings.specs.declared.LineAlign.TheVariants.{Start as LineStart}
 use Rattle.settings.specs.declared.PositionAlign.TheVariants.{Auto as PositionAuto}
 use Rattle.settings.specs.Words.{PERCENT, line_word, line_aligns, position_word, position_aligns}

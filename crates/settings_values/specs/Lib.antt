@@ -1,1 +1,2 @@
+pub mod Hundredths
 pub mod Terms

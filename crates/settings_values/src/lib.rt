@@ -16,60 +16,53 @@ use ascii::is_within;
 use settings::{Align, Line, LineAlign, Parsed, Position, PositionAlign, Vertical};
 use timestamps::{Digits, number_of, read_digits};
 
-// A percentage in hundredths, or it is none.
-#[derive(Clone, Copy)]
-pub enum Hundredths {
-    Of(u16),
-    Wrong,
-}
-
 // `.d%`
-fn read_tenths(s: &[u8]) -> Hundredths
+fn read_tenths(s: &[u8]) -> Option<u16>
     requires { length s.now ≡ 3 }
     ensures { percent_or result ≡ hundredths_of s.now }
 {
     if s[0] != b'.' {
-        return Hundredths::Wrong;
+        return None;
     }
     if !is_within(b'0', b'9', s[1]) {
-        return Hundredths::Wrong;
+        return None;
     }
     if s[2] != b'%' {
-        return Hundredths::Wrong;
+        return None;
     }
-    Hundredths::Of((number_of(s[1]) * 10) as u16)
+    Some((number_of(s[1]) * 10) as u16)
 }
 
 // `.dd%`
-fn read_two(s: &[u8]) -> Hundredths
+fn read_two(s: &[u8]) -> Option<u16>
     requires { length s.now ≡ 4 }
     ensures { percent_or result ≡ hundredths_of s.now }
 {
     if s[0] != b'.' {
-        return Hundredths::Wrong;
+        return None;
     }
     if !is_within(b'0', b'9', s[1]) {
-        return Hundredths::Wrong;
+        return None;
     }
     if !is_within(b'0', b'9', s[2]) {
-        return Hundredths::Wrong;
+        return None;
     }
     if s[3] != b'%' {
-        return Hundredths::Wrong;
+        return None;
     }
-    Hundredths::Of((number_of(s[1]) * 10 + number_of(s[2])) as u16)
+    Some((number_of(s[1]) * 10 + number_of(s[2])) as u16)
 }
 
 // What stands behind the whole percents.
-fn read_decimals(s: &[u8]) -> Hundredths
+fn read_decimals(s: &[u8]) -> Option<u16>
     ensures { percent_or result ≡ hundredths_of s.now }
 {
     let n = s.len();
     if n == 1 {
         if s[0] == b'%' {
-            return Hundredths::Of(0);
+            return Some(0);
         }
-        return Hundredths::Wrong;
+        return None;
     }
     if n == 3 {
         return read_tenths(s);
@@ -77,30 +70,27 @@ fn read_decimals(s: &[u8]) -> Hundredths
     if n == 4 {
         return read_two(s);
     }
-    Hundredths::Wrong
+    None
 }
 
 // A percentage whose whole percents are read.
-fn end_percent(s: &[u8], d: Digits) -> Hundredths
+fn end_percent(s: &[u8], d: Digits) -> Option<u16>
     requires { (d.count ≡ length (front digit s.now)) × (d.number ≡ min (value (front digit s.now)) 40000) }
     ensures { percent_or result ≡ percent_of s.now }
 {
     let n = d.count;
     if n == 0 {
-        return Hundredths::Wrong;
+        return None;
     }
-    let t = read_decimals(&s[n..s.len()]);
-    let Hundredths::Of(h) = t else {
-        return Hundredths::Wrong;
-    };
+    let h = read_decimals(&s[n..s.len()])?;
     let p = d.number * 100 + h as u32;
     if 10000 < p {
-        return Hundredths::Wrong;
+        return None;
     }
-    Hundredths::Of(p as u16)
+    Some(p as u16)
 }
 
-fn read_percent(s: &[u8]) -> Hundredths
+fn read_percent(s: &[u8]) -> Option<u16>
     ensures { percent_or result ≡ percent_of s.now }
 {
     end_percent(s, read_digits(s, 40000))
@@ -157,80 +147,74 @@ fn read_line(s: &[u8]) -> Line
     }
     let t = end_percent(s, d);
     match t {
-        Hundredths::Of(p) => Line::Percent(p),
-        Hundredths::Wrong => Line::Auto,
+        Some(p) => Line::Percent(p),
+        None => Line::Auto,
     }
 }
 
-fn parse_vertical(s: &[u8]) -> Parsed
+fn parse_vertical(s: &[u8]) -> Option<Parsed>
     ensures { result ≡ as_vertical (word_in vertical_word verticals s.now) }
 {
     if is_word(s, b"rl") {
-        return Parsed::Vertical(Vertical::Rl);
+        return Some(Parsed::Vertical(Vertical::Rl));
     }
     if is_word(s, b"lr") {
-        return Parsed::Vertical(Vertical::Lr);
+        return Some(Parsed::Vertical(Vertical::Lr));
     }
-    Parsed::Malformed
+    None
 }
 
-fn parse_align(s: &[u8]) -> Parsed
+fn parse_align(s: &[u8]) -> Option<Parsed>
     ensures { result ≡ as_align (word_in align_word aligns s.now) }
 {
     if is_word(s, b"start") {
-        return Parsed::Align(Align::Start);
+        return Some(Parsed::Align(Align::Start));
     }
     if is_word(s, b"center") {
-        return Parsed::Align(Align::Center);
+        return Some(Parsed::Align(Align::Center));
     }
     if is_word(s, b"end") {
-        return Parsed::Align(Align::End);
+        return Some(Parsed::Align(Align::End));
     }
     if is_word(s, b"left") {
-        return Parsed::Align(Align::Left);
+        return Some(Parsed::Align(Align::Left));
     }
     if is_word(s, b"right") {
-        return Parsed::Align(Align::Right);
+        return Some(Parsed::Align(Align::Right));
     }
-    Parsed::Malformed
+    None
 }
 
-fn parse_size(s: &[u8]) -> Parsed
+fn parse_size(s: &[u8]) -> Option<Parsed>
     ensures { result ≡ as_size (percent_of s.now) }
 {
-    let t = read_percent(s);
-    match t {
-        Hundredths::Of(p) => Parsed::Size(p),
-        Hundredths::Wrong => Parsed::Malformed,
-    }
+    Some(Parsed::Size(read_percent(s)?))
 }
 
 // The place of the first comma, or the length.
 fn find_comma(s: &[u8]) -> usize
     ensures { (result ≡ length (front not_comma s.now)) × (result ≤ length s.now) }
 {
-    let mut i = 0;
-    while i < s.len() {
-        if s[i] == b',' {
+    for (i, &b) in s.iter().enumerate() {
+        if b == b',' {
             return i;
         }
-        i += 1;
     }
-    i
+    s.len()
 }
 
-fn line_with(at: Line, align: LineAlign) -> Parsed
+fn line_with(at: Line, align: LineAlign) -> Option<Parsed>
     ensures { result ≡ as_line at (some align) }
 {
     match at {
-        Line::Auto => Parsed::Malformed,
-        Line::Number(_) => Parsed::Line { at, align },
-        Line::Percent(_) => Parsed::Line { at, align },
+        Line::Auto => None,
+        Line::Number(_) => Some(Parsed::Line { at, align }),
+        Line::Percent(_) => Some(Parsed::Line { at, align }),
     }
 }
 
 // A line and the word of its alignment.
-fn align_line(at: Line, s: &[u8]) -> Parsed
+fn align_line(at: Line, s: &[u8]) -> Option<Parsed>
     ensures { result ≡ as_line at (word_in line_word line_aligns s.now) }
 {
     if is_word(s, b"start") {
@@ -242,10 +226,10 @@ fn align_line(at: Line, s: &[u8]) -> Parsed
     if is_word(s, b"end") {
         return line_with(at, LineAlign::End);
     }
-    Parsed::Malformed
+    None
 }
 
-fn parse_line(s: &[u8]) -> Parsed
+fn parse_line(s: &[u8]) -> Option<Parsed>
     ensures { result ≡ line_parsed s.now }
 {
     let k = find_comma(s);
@@ -256,20 +240,15 @@ fn parse_line(s: &[u8]) -> Parsed
     align_line(at, &s[k + 1..s.len()])
 }
 
-fn position_with(at: Hundredths, align: PositionAlign) -> Parsed
+fn position_with(at: Option<u16>, align: PositionAlign) -> Option<Parsed>
     ensures { result ≡ as_position (percent_or at) (some align) }
 {
-    match at {
-        Hundredths::Of(p) => Parsed::Position {
-            at: Position::Percent(p),
-            align,
-        },
-        Hundredths::Wrong => Parsed::Malformed,
-    }
+    let at = Position::Percent(at?);
+    Some(Parsed::Position { at, align })
 }
 
 // A position and the word of its alignment.
-fn align_position(at: Hundredths, s: &[u8]) -> Parsed
+fn align_position(at: Option<u16>, s: &[u8]) -> Option<Parsed>
     ensures { result ≡ as_position (percent_or at) (word_in position_word position_aligns s.now) }
 {
     if is_word(s, b"line-left") {
@@ -281,10 +260,10 @@ fn align_position(at: Hundredths, s: &[u8]) -> Parsed
     if is_word(s, b"line-right") {
         return position_with(at, PositionAlign::LineRight);
     }
-    Parsed::Malformed
+    None
 }
 
-fn parse_position(s: &[u8]) -> Parsed
+fn parse_position(s: &[u8]) -> Option<Parsed>
     ensures { result ≡ position_parsed s.now }
 {
     let k = find_comma(s);
@@ -296,25 +275,14 @@ fn parse_position(s: &[u8]) -> Parsed
 }
 
 // 1 for white space, which no byte of a region's name is, else 0.
+#[tactic(auto, unfolding(settings::specs::Grammar::named))]
 fn space_of(b: u8) -> u8
     ensures { eqb result 0 ≡ named b }
 {
-    if b == b' ' {
-        return 1;
+    match b {
+        b' ' | b'\t' | b'\n' | 0x0C | b'\r' => 1,
+        _ => 0,
     }
-    if b == b'\t' {
-        return 1;
-    }
-    if b == b'\n' {
-        return 1;
-    }
-    if b == 0x0C {
-        return 1;
-    }
-    if b == b'\r' {
-        return 1;
-    }
-    0
 }
 
 // Whether each byte may stand in a region's name. It does not end early, so that the compiler takes wide steps.
@@ -322,39 +290,34 @@ pub fn is_name(s: &[u8]) -> bool
     ensures { result ≡ leb (length s.now) (length (front named s.now)) }
 {
     let mut x = 0;
-    let mut i = 0;
-    while i < s.len() {
-        x = x | space_of(s[i]);
-        i += 1;
+    for &b in s {
+        x |= space_of(b);
     }
     x == 0
 }
 
 // A region's name, which stands from `at` on.
-fn parse_region(s: &[u8], at: usize) -> Parsed
+fn parse_region(s: &[u8], at: usize) -> Option<Parsed>
     requires { at + length s.now ≤ 18446744073709551615 }
     ensures { result ≡ region_parsed at s.now }
 {
     if s.len() == 0 {
-        return Parsed::Malformed;
+        return None;
     }
     if !is_name(s) {
-        return Parsed::Malformed;
+        return None;
     }
-    Parsed::Region {
+    Some(Parsed::Region {
         from: at,
         end: at + s.len(),
-    }
+    })
 }
 
 // 0 for the same byte, else 1.
 fn other(a: u8, b: u8) -> u8
     ensures { eqb result 0 ≡ eqb a b }
 {
-    if a == b {
-        return 0;
-    }
-    1
+    u8::from(a != b)
 }
 
 // Whether the text begins with the string. It does not end early, so that a short string is compared in one step.
@@ -363,10 +326,8 @@ fn agrees(s: &[u8], p: &[u8]) -> bool
     ensures { result ≡ starts_with p.now s.now }
 {
     let mut x = 0;
-    let mut i = 0;
-    while i < p.len() {
-        x = x | other(s[i], p[i]);
-        i += 1;
+    for i in 0..p.len() {
+        x |= other(s[i], p[i]);
     }
     x == 0
 }
@@ -380,6 +341,7 @@ fn starts_with(s: &[u8], p: &[u8]) -> bool
     agrees(s, p)
 }
 
+// The words are told apart by this: with a `match` on the slice each word that fails leaves a goal for its length and for each byte, and they do not close alone.
 fn is_word(s: &[u8], w: &[u8]) -> bool
     ensures { result ≡ same_list s.now w.now }
 {
@@ -390,7 +352,7 @@ fn is_word(s: &[u8], w: &[u8]) -> bool
 }
 
 // The word that stands at `at`, as a setting.
-pub fn parse_word(s: &[u8], at: usize) -> Parsed
+pub fn parse_word(s: &[u8], at: usize) -> Option<Parsed>
     requires { at + length s.now ≤ 18446744073709551615 }
     ensures { result ≡ parsed at s.now }
 {
@@ -412,5 +374,5 @@ pub fn parse_word(s: &[u8], at: usize) -> Parsed
     if starts_with(s, b"region:") {
         return parse_region(&s[7..s.len()], at + 7);
     }
-    Parsed::Malformed
+    None
 }

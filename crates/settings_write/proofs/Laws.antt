@@ -15,8 +15,14 @@ use Rattle.base.specs.Over.{over, wrote}
 use Rattle.base.proofs.Choice.{both_left, both_right, by-test}
 use Rattle.base.proofs.Over.{wrote-over, in_three}
 use Rattle.base.proofs.Tests.{both-no}
+use Rattle.std.specs.Result.{is_ok}
+use Rattle.viable.specs.Judged.{Judged, Right, Bad}
+use Rattle.viable.specs.FirstBad.{judged_by}
+use Rattle.viable.proofs.FirstBad.{when-right, when-bad}
 use Rattle.verdict.specs.Judgement.{fault}
-use Rattle.wvtt_entry_write.specs.declared.Written.TheVariants.{Done, Refused}
+use Rattle.text.specs.Beginnings.{identifier_begun}
+use Rattle.text.specs.Rules.{identifier_text}
+use Rattle.wvtt_entry_write.specs.Written.{Done, Refused}
 use Rattle.text.proofs.Rules.{empty-line}
 use Rattle.timestamps.specs.Timestamps.{front}
 use Rattle.settings.specs.declared.Settings.{Settings}
@@ -34,6 +40,10 @@ pub nameless : (w : List ℕ) → length w ≡ 0 → true ≡ region_allowed w
 unfolding region_allowed
 nameless [] h = sym (rw (le-leb 0 (length (front named [])) (omega arith)) empty-line)
 nameless (b ∷ w) h = absurd (omega arith)
+
+pub judged-name : (w : List ℕ) (j : Judged) → j ≡ judged_by identifier_text identifier_begun w → is_ok j ≡ identifier_text w
+judged-name w Right e = sym (when-right identifier_text identifier_begun w (sym e))
+judged-name w (Bad q) e = sym (when-bad identifier_text identifier_begun w q (sym e)).0
 
 -- ---- a line's number is in its range
 

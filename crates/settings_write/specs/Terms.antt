@@ -3,8 +3,7 @@ use Rattle.std.specs.Prelude.{ℕ, ◌+◌, ◌≤◌, ◌≡◌, Bool, true, fa
 use Rattle.base.specs.Choice.{pick, both}
 use Rattle.settings.specs.declared.Settings.{Settings}
 use Rattle.settings.specs.Form.{stated_values, joined, settings_allowed, region_allowed, written, writable}
-use Rattle.settings_write.specs.declared.Form.{Form}
-use Rattle.settings_write.specs.declared.Form.TheVariants.{Fits, Unfit}
+use Rattle.settings_write.specs.Form.{Form, Fits, Unfit}
 use Rattle.settings_write.specs.Writing.{record_with}
 
 -- each value and the name may be written; and the name alone is not too long

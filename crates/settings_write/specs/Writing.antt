@@ -2,8 +2,7 @@
 use Rattle.std.specs.Prelude.{ℕ, List, length}
 use Rattle.base.specs.Choice.{pick}
 use Rattle.verdict.specs.Judgement.{fault}
-use Rattle.wvtt_entry_write.specs.declared.Written.{Written}
-use Rattle.wvtt_entry_write.specs.declared.Written.TheVariants.{Done, Refused}
+use Rattle.wvtt_entry_write.specs.Written.{Written, Done, Refused}
 use Rattle.wvtt_entry_write.specs.Writing.{lent}
 use Rattle.settings.specs.declared.Settings.{Settings}
 use Rattle.settings.specs.Grammar.{Record}

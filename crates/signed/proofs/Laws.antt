@@ -1,5 +1,5 @@
 -- The order of signed numbers is that of their ranks; the bytes that are -1, 0 or 1; the numbers themselves.
-use Prim.Native.Nat.{ℕ, suc, ◌+◌, ◌-◌, ◌≤◌, ◌<◌}
+use Prim.Native.Nat.{ℕ, suc, ◌+◌, ◌-◌, ◌*◌, ◌≤◌, ◌<◌}
 use mathlib.Core.Path.{◌≡◌, refl, sym, ◌∙◌}
 use mathlib.Core.List.{List}
 use mathlib.Core.Bool.{Bool, true, false}
@@ -65,11 +65,13 @@ module _ (half v : ℕ) (few : half ≤ 32768) where
   unfolding signed
   small_is h = rw (lt-ltb v half h, lt-ltb v 2147483648 (omega arith))
 
-  pub large_is : (top : ℕ) → half + half ≡ suc top → v < suc top → half ≤ v → to_z w32 v -ℤ pos (suc top) ≡ signed half v
+  pub large_is : half ≤ v → v < half + half → to_z w32 v -ℤ to_z w32 (2 * half) ≡ signed half v
   unfolding signed
-  large_is top q h k =
-      let e : suc top - suc v ≡ half + half - 1 - v = omega arith in
-      rw (le-ltb v half k, lt-ltb v 2147483648 (omega arith), lt-ltb v (suc top) h, e)
+  large_is k h =
+      let top : 2 * half ≡ suc (half + half - 1) = omega arith in
+      let e : suc (half + half - 1) - suc v ≡ half + half - 1 - v = omega arith in
+      rw
+      (top, le-ltb v half k, lt-ltb v 2147483648 (omega arith), lt-ltb (suc (half + half - 1)) 2147483648 (omega arith), lt-ltb v (suc (half + half - 1)) (omega arith), e)
 
   pub signed-fits : v < half + half → SFits w32 (signed half v)
   unfolding signed

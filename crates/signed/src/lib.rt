@@ -4,7 +4,7 @@
 ghost use Rattle.std.specs.Prelude.{◌≡◌, ◌+◌, ◌≤◌, ◌<◌, length};
 ghost use Rattle.std.specs.Int.Signed.{le_z};
 ghost use Rattle.fields.specs.BigEndian.{be};
-ghost use Rattle.signed.specs.Signed.{signed16, signed8, ordered, justified, edges_at};
+ghost use Rattle.signed.specs.Signed.{signed, signed16, signed8, ordered, justified, edges_at};
 ghost use Rattle.signed.specs.Rank.{shift16};
 
 use fields::{get8, get16};
@@ -23,10 +23,7 @@ fn rank(v: u32) -> u32
     requires { v < 65536 }
     ensures { (result ≡ shift16 v) × (result < 65536) }
 {
-    if v < 32768 {
-        return v + 32768;
-    }
-    v - 32768
+    if v < 32768 { v + 32768 } else { v - 32768 }
 }
 
 // Whether the field at `a` is at most the one at `b`, as signed numbers.
@@ -42,10 +39,7 @@ pub fn is_ordered(s: &[u8], at: usize) -> bool
     requires { at + 8 ≤ length s.now }
     ensures { result ≡ ordered s.now at }
 {
-    if at_most(s, at, at + 4) {
-        return at_most(s, at + 2, at + 6);
-    }
-    false
+    at_most(s, at, at + 4) && at_most(s, at + 2, at + 6)
 }
 
 // Whether the byte at `at` is -1, 0 or 1.
@@ -54,21 +48,19 @@ pub fn is_justified(s: &[u8], at: usize) -> bool
     ensures { result ≡ justified (be 1 s.now at) }
 {
     let b = get8(s, at);
-    if b == 255 {
-        return true;
-    }
-    b < 2
+    b == 255 || b < 2
 }
 
-// A number of 16 bits.
-fn signed_16(v: u32) -> i32
-    requires { v < 65536 }
-    ensures { result ≡ signed16 v }
+// A number in two's complement, `half` of whose values are negative.
+fn signed(half: u32, v: u32) -> i32
+    requires { (half ≤ 32768) × (v < half + half) }
+    ensures { result ≡ signed half v }
 {
-    if v < 32768 {
-        return v as i32;
+    if v < half {
+        v as i32
+    } else {
+        v as i32 - (2 * half) as i32
     }
-    (v as i32) - 65536
 }
 
 // The byte at `at`.
@@ -76,11 +68,7 @@ pub fn get_signed8(s: &[u8], at: usize) -> i32
     requires { at < length s.now }
     ensures { (result ≡ signed8 (be 1 s.now at)) × (be 1 s.now at < 256) }
 {
-    let v = get8(s, at);
-    if v < 128 {
-        return v as i32;
-    }
-    (v as i32) - 256
+    signed(128, get8(s, at))
 }
 
 // The two bytes at `at`.
@@ -88,7 +76,7 @@ pub fn get_signed16(s: &[u8], at: usize) -> i32
     requires { at + 2 ≤ length s.now }
     ensures { (result ≡ signed16 (be 2 s.now at)) × (be 2 s.now at < 65536) }
 {
-    signed_16(get16(s, at))
+    signed(32768, get16(s, at))
 }
 
 // The text box at `at`.

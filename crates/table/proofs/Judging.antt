@@ -7,8 +7,7 @@ use native.Mathlib.Nat.{le_antisymm}
 use native.Mathlib.Numerals.{add-one}
 use lib.ListN.{length}
 use Rattle.verdict.specs.declared.Refusal.{Refusal}
-use Rattle.verdict.specs.declared.Verdict.{Verdict}
-use Rattle.verdict.specs.declared.Verdict.TheVariants.{Fine, Refused}
+use Rattle.verdict.specs.Verdict.{Verdict, Fine, Refused}
 use Rattle.verdict.specs.Judgement.{each}
 use Rattle.verdict.proofs.Judgement.{each_more, each-stops}
 use Rattle.table.specs.Table.{row_count, size_of, offset_of, judge_size, judge_whole, judge_left, judge_rows}

@@ -10,8 +10,8 @@ use lib.Dec.{ltb, eqb}
 use lib.ListN.{length, drop, length-drop}
 use lib.Seq.{length-take-le}
 use borrow.Author.Tests.{ltb-false, eqb-true, eqb-false, le-ltb, ne_eqb, not-false}
-use Rattle.verdict.specs.declared.Verdict.{Verdict}
-use Rattle.verdict.specs.declared.Verdict.TheVariants.{Fine, Refused}
+use Rattle.verdict.specs.declared.Refusal.{Refusal}
+use Rattle.verdict.specs.Verdict.{Verdict, Fine, Refused}
 use Rattle.verdict.specs.Judgement.{◌gives◌at◌, each}
 use Rattle.verdict.proofs.Judgement.{both-fine, not-given, each-fine, each_all}
 use Rattle.boxes.specs.Boxes.{part}
@@ -146,3 +146,7 @@ readable-iff read table samples = (there, back)
 
     back : ReadableBy read table samples × ((i : ℕ) → i < row_count table → 0 < duration_of table i) → judge_rows (judge_row_by read table samples) table samples ≡ Fine
     back r = fine-rows (judge_row_by read table samples) table samples r.0.laid (λ i l. rw (fine-row table samples i (r.1 i l) (laid-size table samples r.0.laid i l), r.0.reads i l))
+
+-- no verdict is both
+pub fine-refused : {X : Type 0} (r : Refusal) → Fine ≡ Refused r → X
+fine-refused r e = let z : ◌≡◌ {A = ℕ} 0 1 = cc in absurd (omega arith)

@@ -1,4 +1,5 @@
 -- What the answers of dropping mean.
+use Rattle.std.proofs.Common.{Ok}
 use Prim.Native.Nat.{ℕ}
 use mathlib.Core.Path.{◌≡◌, refl, sym, ap, ◌∙◌}
 use mathlib.Core.Bool.{Bool, true, false}
@@ -9,13 +10,11 @@ use lib.ListN.{length}
 use borrow.Author.Tests.{le-ltb}
 use Rattle.base.specs.Choice.{pick}
 use Rattle.verdict.specs.declared.Refusal.{Refusal}
-use Rattle.verdict.specs.declared.Verdict.{Verdict}
-use Rattle.verdict.specs.declared.Verdict.TheVariants.{Fine, Refused as Faulty}
+use Rattle.verdict.specs.Verdict.{Verdict, Fine, Refused as Faulty}
 use Rattle.verdict.specs.Judgement.{fault}
 use Rattle.table.specs.Table.{judge_whole, judge_rows}
 use Rattle.table.specs.Parts.{table_of, content_of}
-use Rattle.table_lasting.specs.declared.Dropped.{Dropped}
-use Rattle.table_lasting.specs.declared.Dropped.TheVariants.{Done, Refused}
+use Rattle.table_lasting.specs.Dropped.{Dropped, Done, Refused}
 use Rattle.table_lasting.specs.Lasting.{lasting_of}
 use Rattle.table_lasting.specs.Dropping.{judge_drop, sizes_of, unless_faulty, drop_room, roomed, drop_of, out_of}
 use Rattle.table_lasting.specs.Statements.{Drops}
@@ -33,6 +32,19 @@ module _ (table samples : List ℕ) where
   unfolding drop_of
   room-told a b d n t m e q = ap (roomed a b) (sym e ∙ q)
 
+  -- the numbers of an answer
+  abbrev samples_in : Dropped → ℕ
+  samples_in (Ok x) = x.samples
+  samples_in (Refused r) = 0
+
+  abbrev table_in : Dropped → ℕ
+  table_in (Ok x) = x.table
+  table_in (Refused r) = 0
+
+  abbrev bytes_in : Dropped → ℕ
+  bytes_in (Ok x) = x.bytes
+  bytes_in (Refused r) = 0
+
   -- done: there is no fault, and the numbers are those of the samples that last
   pub record DoneMeans (n t m : ℕ) : Type 0 where
     pub fine : judge_drop table samples ≡ Fine
@@ -48,7 +60,7 @@ module _ (table samples : List ℕ) where
       go (Faulty r) f = let k : unless_faulty (Faulty r) (sizes_of (lasting_of table samples)) ≡ Done n t m = ap (λ (v : Verdict). unless_faulty v (sizes_of (lasting_of table samples))) (sym f) ∙ e in
           let z : ◌≡◌ {A = ℕ} 0 1 = cc in absurd (omega arith)
       go Fine f = let k : sizes_of (lasting_of table samples) ≡ Done n t m = ap (λ (v : Verdict). unless_faulty v (sizes_of (lasting_of table samples))) (sym f) ∙ e in
-          record { fine = f; samples_are = cc; table_is = cc; bytes_are = cc }
+          record { fine = f; samples_are = sym (ap samples_in k); table_is = sym (ap table_in k); bytes_are = sym (ap bytes_in k) }
 
   pub done-means : (a b n t m : ℕ) → drop_of table samples a b ≡ Done n t m → DoneMeans n t m
   unfolding drop_of
@@ -64,7 +76,7 @@ module _ (table samples : List ℕ) where
 
       go : (d : Dropped) → drop_room table samples ≡ d → drop_room table samples ≡ Done n t m
       go (Refused r) f = apart r (sym (ap (roomed a b) f) ∙ e)
-      go (Done x y z) f = f ∙ by (ltb a y) (ltb b z) (Done x y z) (sym (ap (roomed a b) f) ∙ e)
+      go (Ok w) f = f ∙ by (ltb a w.table) (ltb b w.bytes) (Done w.samples w.table w.bytes) (sym (ap (roomed a b) f) ∙ e)
 
 pub drops : Drops
 unfolding drop_of drop_room sizes_of

@@ -5,8 +5,7 @@ use mathlib.Core.List.{List, [], ◌∷◌, Memᴰ}
 use native.Mathlib.Omega.{arith}
 use lib.Dec.{eqb}
 use lib.ListN.{length, get_or, length-take, length-drop}
-use Rattle.verdict.specs.declared.Verdict.{Verdict}
-use Rattle.verdict.specs.declared.Verdict.TheVariants.{Fine}
+use Rattle.verdict.specs.Verdict.{Verdict, Fine}
 use Rattle.base.proofs.Choice.{by-test}
 use Rattle.fields.proofs.BigEndian.{Bytes, be-fits}
 use Rattle.boxes.specs.Boxes.{part}

@@ -11,14 +11,14 @@ use Rattle.base.proofs.Over.{over-nil, over-wrote, length_over}
 use Rattle.fields.proofs.BigEndian.{Bytes}
 use Rattle.boxes.specs.Boxes.{part}
 use Rattle.verdict.specs.declared.Refusal.{Refusal}
-use Rattle.verdict.specs.declared.Verdict.TheVariants.{Fine, Refused as Faulty}
+use Rattle.verdict.specs.Verdict.{Fine, Refused as Faulty}
 use Rattle.table.specs.Table.{row_count, duration_of, size_of, offset_of, bytes_of, judge_size, judge_whole, judge_left}
 use Rattle.wvtt_write.proofs.Laws.{length_part}
 use Rattle.table.specs.Parts.{Part, part_at, table_of, content_of}
 use Rattle.table.proofs.Laws.{offset-suc, offset-most, length-bytes, laid-inside, size-fine}
 use Rattle.table.proofs.Parts.{length-table}
 use Rattle.table.proofs.Judging.{Judged, judged-none, judged-more, judged-stops, judged-all}
-use Rattle.table_lasting.specs.declared.Dropped.TheVariants.{Done, Refused}
+use Rattle.table_lasting.specs.Dropped.{Done, Refused}
 use Rattle.table_lasting.specs.Lasting.{lasting_of}
 use Rattle.table_lasting.specs.Dropping.{judge_drop, sizes_of, drop_room}
 use Rattle.table_lasting.specs.Copying.{Room, Lasts}

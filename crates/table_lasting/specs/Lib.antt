@@ -1,3 +1,4 @@
+pub mod Dropped
 pub mod Lasting
 pub mod Dropping
 pub mod Statements

@@ -1,7 +1,6 @@
 -- Samples that last no tick, dropped with their bytes, change nothing at any tick and nothing that is read.
 use Rattle.std.specs.Prelude.{ℕ, ◌≤◌, ◌<◌, ◌≡◌, ◌↔◌, List, length, get_or}
-use Rattle.verdict.specs.declared.Verdict.{Verdict}
-use Rattle.verdict.specs.declared.Verdict.TheVariants.{Fine}
+use Rattle.verdict.specs.Verdict.{Verdict, Fine}
 use Rattle.timeline.specs.Cues.{Body}
 use Rattle.timeline.specs.Tracks.{Sample, total, held_at}
 use Rattle.table.specs.Table.{row_count, duration_of, bytes_of, judge_row_by, judge_rows, Laid}

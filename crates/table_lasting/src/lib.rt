@@ -3,27 +3,16 @@
 
 ghost use Rattle.std.specs.Prelude.{◌≡◌, ◌≤◌, length};
 ghost use Rattle.base.specs.Over.{over};
-ghost use Rattle.verdict.specs.declared.Verdict.TheVariants.{Fine};
+ghost use Rattle.verdict.specs.Verdict.{Fine};
 ghost use Rattle.table.specs.Table.{row_count, offset_of, judge_whole};
 ghost use Rattle.table.specs.Parts.{table_of, content_of};
 ghost use Rattle.table_lasting.specs.Lasting.{lasting_of};
 ghost use Rattle.table_lasting.specs.Dropping.{drop_room, drop_of, out_of};
 ghost use Rattle.table_lasting.specs.Copying.{Room, Longest};
 
-use table::{duration_at, judge_left, judge_size, judge_whole, size_at};
-use verdict::{Refusal, Verdict, fault_at};
+use table::{Sizes, duration_at, judge_left, judge_size, judge_whole, size_at};
+use verdict::{Reason, Refusal, Verdict};
 use wvtt_write::copy_run;
-
-// How many samples are left, and the bytes of the table and of the samples; or why nothing was written.
-#[derive(Clone, Copy)]
-pub enum Dropped {
-    Done {
-        samples: usize,
-        table: usize,
-        bytes: usize,
-    },
-    Refused(Refusal),
-}
 
 // Neighbouring samples that last: the row behind the last of them, and their bytes.
 #[derive(Clone, Copy)]
@@ -33,7 +22,7 @@ struct Run {
 }
 
 // The room for a table of whole records: the samples that last, where there is no fault.
-fn measure_rows(table: &[u8], samples: &[u8]) -> Dropped
+fn measure_rows(table: &[u8], samples: &[u8]) -> Result<Sizes, Refusal>
     requires { judge_whole table.now ≡ Fine }
     ensures { result ≡ drop_room table.now samples.now }
 {
@@ -41,29 +30,21 @@ fn measure_rows(table: &[u8], samples: &[u8]) -> Dropped
     let mut kept = 0;
     let mut bytes = 0;
     let mut at = 0;
-    let mut i = 0;
-    while i < count {
-        let v = judge_size(table, samples, i, at);
-        if let Verdict::Refused(why) = v {
-            return Dropped::Refused(why);
-        }
+    for i in 0..count {
+        judge_size(table, samples, i, at)?;
         let size = size_at(table, i);
         if duration_at(table, i) != 0 {
             kept += 1;
             bytes += size;
         }
         at += size;
-        i += 1;
     }
-    let left = judge_left(samples, count, at);
-    let Verdict::Refused(why) = left else {
-        return Dropped::Done {
-            samples: kept,
-            table: kept * 8,
-            bytes,
-        };
-    };
-    Dropped::Refused(why)
+    judge_left(samples, count, at)?;
+    Ok(Sizes {
+        samples: kept,
+        table: kept * 8,
+        bytes,
+    })
 }
 
 // The longest run of samples that last, from a row on.
@@ -73,15 +54,13 @@ fn find_run(table: &[u8], from: usize) -> Run
 {
     let count = table.len() / 8;
     let mut bytes = 0;
-    let mut i = from;
-    while i < count {
+    for i in from..count {
         if duration_at(table, i) == 0 {
             return Run { end: i, bytes };
         }
         bytes += size_at(table, i);
-        i += 1;
     }
-    Run { end: i, bytes }
+    Run { end: count, bytes }
 }
 
 // The samples that last, run by run, to the front of both outputs.
@@ -95,6 +74,7 @@ fn copy_rows(table: &[u8], samples: &[u8], rows: &mut [u8], content: &mut [u8])
     let mut to = 0;
     let mut at = 0;
     let mut i = 0;
+    // A step goes over a run and the sample behind it, so it counts no index.
     while i < count {
         let run = find_run(table, i);
         let n = run.end - i;
@@ -112,14 +92,11 @@ fn copy_rows(table: &[u8], samples: &[u8], rows: &mut [u8], content: &mut [u8])
 }
 
 // The room that dropping needs: what it answers where there is enough.
-pub fn drop_zero_durations_room(table: &[u8], samples: &[u8]) -> Dropped
+pub fn drop_zero_durations_room(table: &[u8], samples: &[u8]) -> Result<Sizes, Refusal>
     ensures { result ≡ drop_room table.now samples.now }
 {
-    let whole = judge_whole(table);
-    let Verdict::Refused(why) = whole else {
-        return measure_rows(table, samples);
-    };
-    Dropped::Refused(why)
+    judge_whole(table)?;
+    measure_rows(table, samples)
 }
 
 // Copies a table and its samples without the samples of duration 0, or says why not.
@@ -128,26 +105,18 @@ pub fn drop_zero_durations(
     samples: &[u8],
     rows: &mut [u8],
     content: &mut [u8],
-) -> Dropped
+) -> Result<Sizes, Refusal>
     ensures value { result ≡ drop_of table.now samples.now (length rows.old) (length content.old) }
     ensures rows_after { rows.new ≡ out_of result (table_of (lasting_of table.now samples.now)) rows.old }
     ensures content_after { content.new ≡ out_of result (content_of (lasting_of table.now samples.now)) content.old }
 {
-    let room = drop_zero_durations_room(table, samples);
-    let Dropped::Done {
-        samples: _,
-        table: size,
-        bytes,
-    } = room
-    else {
-        return room;
-    };
-    if rows.len() < size {
-        return Dropped::Refused(fault_at(15, 0));
+    let room = drop_zero_durations_room(table, samples)?;
+    if rows.len() < room.table {
+        return Err(Reason::NoRoom.fault_at(0));
     }
-    if content.len() < bytes {
-        return Dropped::Refused(fault_at(15, 1));
+    if content.len() < room.bytes {
+        return Err(Reason::NoRoom.fault_at(1));
     }
     copy_rows(table, samples, &mut *rows, &mut *content);
-    room
+    Ok(room)
 }

@@ -15,7 +15,7 @@ use Rattle.base.proofs.Tests.{both-turn, both_yes, both-no}
 use Rattle.utf8.specs.Utf8.{utf8, utf8_begun, judge, follow, follow_in, rows}
 use Rattle.utf8.specs.Strings.{CR, LF, GREATER, starts_with, has_any, ends_in, begins_line, ends_line, agree}
 use Rattle.utf8.specs.Forbidden.{forbidden, keeps, keeps_begun}
-use Rattle.viable.specs.declared.Judged.TheVariants.{Bad}
+use Rattle.viable.specs.Judged.{Bad}
 use Rattle.utf8.specs.declared.Rule.TheVariants.{Any, Line, Payload}
 use Rattle.utf8.proofs.Windows.{any_none, starts_more}
 use Rattle.utf8.proofs.Strings.{split, agrees-all}

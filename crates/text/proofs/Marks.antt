@@ -15,7 +15,7 @@ use Rattle.base.proofs.Choice.{either, both_left, both_right, by-test, true-fals
 use Rattle.base.proofs.Tests.{one-of-first, one-of-second, both_yes, both-no}
 use Rattle.ascii.specs.Ascii.{ascii, unmarked, all, mark, low, dashes, unlined, lined, all_pairs}
 use Rattle.ascii.proofs.Blocks.{all-lined}
-use Rattle.viable.specs.declared.Judged.TheVariants.{Right}
+use Rattle.viable.specs.Judged.{Right}
 use Rattle.viable.specs.FirstBad.{judged_by}
 use Rattle.viable.proofs.FirstBad.{judged-right}
 use Rattle.utf8.specs.declared.Rule.{Rule}

@@ -1,8 +1,7 @@
 -- The beginnings of texts under each rule: the rule's own words, with the end left open. Nobody has to believe them: `OffsetsAre` of crate demands speaks of the rules alone.
 use Rattle.std.specs.Prelude.{ℕ, List, Bool, not, length}
 use Rattle.base.specs.Choice.{pick, both, any_of}
-use Rattle.viable.specs.declared.Judged.{Judged}
-use Rattle.viable.specs.declared.Judged.TheVariants.{Right, Bad}
+use Rattle.viable.specs.Judged.{Judged, Right, Bad}
 use Rattle.utf8.specs.Utf8.{utf8_begun}
 use Rattle.utf8.specs.Strings.{starts_with, has_any, begins_line, ends_line}
 use Rattle.utf8.specs.Forbidden.{not_in_line, not_in_payload}

@@ -17,49 +17,35 @@ use viable::Judged;
 fn begins_line(s: &[u8]) -> bool
     ensures { result ≡ begins_line s.now }
 {
-    if s.len() == 0 {
-        return false;
-    }
-    is_line_end(s[0])
+    !s.is_empty() && is_line_end(s[0])
 }
 
 fn ends_line(s: &[u8]) -> bool
     ensures { result ≡ ends_line s.now }
 {
-    if s.len() == 0 {
-        return false;
-    }
-    is_line_end(s[s.len() - 1])
+    !s.is_empty() && is_line_end(s[s.len() - 1])
 }
 
 // How many bytes the texts have in common from the start.
 pub fn agreeing(s: &[u8], p: &[u8]) -> usize
     ensures { (result ≡ agree p.now s.now) × (result ≤ length p.now) }
 {
-    let mut i = 0;
-    while i < p.len() {
-        if s.len() <= i {
+    for (i, &b) in p.iter().enumerate() {
+        if i >= s.len() || s[i] != b {
             return i;
         }
-        if s[i] != p[i] {
-            return i;
-        }
-        i += 1;
     }
-    i
+    p.len()
 }
 
 // The answer for a text that may not end in CR or LF.
 fn judge_end(j: Judged, s: &[u8]) -> Judged
     ensures { result ≡ unended j s.now }
 {
-    let Judged::Right = j else {
+    let Ok(()) = j else {
         return j;
     };
-    if ends_line(s) {
-        return Judged::Bad(s.len());
-    }
-    Judged::Right
+    if ends_line(s) { Err(s.len()) } else { Ok(()) }
 }
 
 // UTF-8 by RFC 3629.
@@ -67,9 +53,10 @@ pub fn judge_utf8(s: &[u8]) -> Judged
     ensures { result ≡ judged_by utf8 utf8_begun s.now }
 {
     if is_ascii(s) {
-        return Judged::Right;
+        Ok(())
+    } else {
+        judge_rule(s, Rule::Any)
     }
-    judge_rule(s, Rule::Any)
 }
 
 // Whether none of the bytes is a mark or `>`. Few bytes and very many are taken in one pass. Others are taken eight at a stride, the last eight from the end, until a mark is seen.
@@ -77,13 +64,11 @@ fn is_clear(s: &[u8]) -> bool
     ensures { result ≡ all (unmarked GREATER) s.now 0 (length s.now) }
 {
     let n = s.len();
-    if n < 8 {
-        return is_unmarked(b'>', s);
-    }
-    if 255 < n {
+    if n < 8 || n > 255 {
         return is_unmarked(b'>', s);
     }
     let last = n - 8;
+    // By `step_by` it is slower.
     let mut i = 0;
     while i < last {
         if !is_unmarked8(b'>', s, i) {
@@ -99,9 +84,10 @@ pub fn judge_identifier(s: &[u8]) -> Judged
     ensures { result ≡ judged_by identifier_text identifier_begun s.now }
 {
     if is_clear(s) {
-        return Judged::Right;
+        Ok(())
+    } else {
+        judge_rule(s, Rule::Line)
     }
-    judge_rule(s, Rule::Line)
 }
 
 // Whether a quick test tells that the bytes are right for a payload: no mark but single line ends, and no two `-` together. The last eight hold no line end and no `-`.
@@ -112,18 +98,14 @@ fn is_lined(s: &[u8]) -> bool
     if n < 8 {
         return is_unmarked(b'-', s);
     }
-    if 255 < n {
-        if is_unmarked(b'-', s) {
-            return true;
-        }
+    if n > 255 && is_unmarked(b'-', s) {
+        return true;
     }
     let last = n - 8;
-    let mut i = 0;
-    while i < last {
+    for i in (0..last).step_by(8) {
         if !is_lined8(s, i) {
             return false;
         }
-        i += 8;
     }
     is_unmarked8(b'-', s, last)
 }
@@ -133,18 +115,20 @@ fn judge_inside(s: &[u8]) -> Judged
     ensures { result ≡ judged_by (keeps Rule.Payload) (keeps_begun Rule.Payload) s.now }
 {
     if is_lined(s) {
-        return Judged::Right;
+        Ok(())
+    } else {
+        judge_rule(s, Rule::Payload)
     }
-    judge_rule(s, Rule::Payload)
 }
 
 pub fn judge_payload(s: &[u8]) -> Judged
     ensures { result ≡ judged_by payload_text payload_begun s.now }
 {
     if begins_line(s) {
-        return Judged::Bad(0);
+        Err(0)
+    } else {
+        judge_end(judge_inside(s), s)
     }
-    judge_end(judge_inside(s), s)
 }
 
 pub fn judge_label(s: &[u8]) -> Judged
@@ -157,8 +141,5 @@ pub fn judge_configuration(s: &[u8]) -> Judged
     ensures { result ≡ judged_by configuration_text configuration_begun s.now }
 {
     let n = agreeing(s, b"WEBVTT");
-    if n < 6 {
-        return Judged::Bad(n);
-    }
-    judge_label(s)
+    if n < 6 { Err(n) } else { judge_label(s) }
 }

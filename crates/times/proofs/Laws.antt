@@ -1,5 +1,5 @@
 -- Laws of ticks and milliseconds.
-use Prim.Native.Nat.{ℕ, zero, suc, ◌+◌, ◌*◌, ◌/◌, ◌%◌, ◌<◌, ◌≤◌}
+use Prim.Native.Nat.{ℕ, zero, suc, min, ◌+◌, ◌*◌, ◌/◌, ◌%◌, ◌<◌, ◌≤◌}
 use mathlib.Core.Path.{◌≡◌, refl, ap}
 use mathlib.Core.Bool.{true, false}
 use native.Mathlib.Omega.{arith}
@@ -39,17 +39,23 @@ pub back-most : (scale t : ℕ) → 0 < scale → back scale t ≤ t * 1000
 back-most scale t h = back-least scale t (t * 1000) h (omega (arith, product (t * 1000) 1 (t * 1000) scale (le_refl (t * 1000)) h))
 
 -- the two cases of rounding up
-pub back-even : (scale t : ℕ) → 0 < scale → t * 1000 % scale ≡ 0 → (t * 1000 / scale ≡ back scale t) × (t * 1000 / scale ≤ t * 1000)
+back-even : (scale t : ℕ) → 0 < scale → t * 1000 % scale ≡ 0 → (t * 1000 / scale ≡ back scale t) × (t * 1000 / scale ≤ t * 1000)
 unfolding back
 back-even scale t h z =
     let e : t * 1000 / scale ≡ back scale t = rw (eq-eqb (t * 1000 % scale) 0 z) (omega arith) in
     (e, omega (arith, back-most scale t h))
 
-pub back_more : (scale t : ℕ) → 0 < scale → (t * 1000 % scale ≡ 0 → ⊥) → (t * 1000 / scale + 1 ≡ back scale t) × (t * 1000 / scale + 1 ≤ t * 1000)
+back_more : (scale t : ℕ) → 0 < scale → (t * 1000 % scale ≡ 0 → ⊥) → (t * 1000 / scale + 1 ≡ back scale t) × (t * 1000 / scale + 1 ≤ t * 1000)
 unfolding back
 back_more scale t h z =
     let e : t * 1000 / scale + 1 ≡ back scale t = rw (ne_eqb (t * 1000 % scale) 0 z) in
     (e, omega (arith, back-most scale t h))
+
+pub back-ceil : (scale t : ℕ) → 0 < scale → (t * 1000 / scale + min 1 (t * 1000 % scale) ≡ back scale t) × (t * 1000 / scale + min 1 (t * 1000 % scale) ≤ t * 1000)
+back-ceil scale t h =
+    by-test (eqb (t * 1000 % scale) 0)
+    (λ z. let e = eqb-true (t * 1000 % scale) 0 z in let r = back-even scale t h e in (omega (arith, e, r.0), omega (arith, e, r.1)))
+    (λ z. let e = eqb-false (t * 1000 % scale) 0 z in let r = back_more scale t h e in (omega (arith, e, r.0), omega (arith, e, r.1)))
 
 pub tick-mono : (scale m n : ℕ) → m ≤ n → tick scale m ≤ tick scale n
 unfolding tick

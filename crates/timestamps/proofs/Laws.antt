@@ -16,7 +16,7 @@ use Rattle.base.proofs.Tests.{both-no, both_yes}
 use Rattle.utf8.specs.Utf8.{Range}
 use Rattle.utf8.proofs.Ranges.{in-range, inside}
 use Rattle.decimal.specs.Decimal.{value, value_from}
-use Rattle.timestamps.specs.declared.Timestamp.TheVariants.{Ms}
+use Rattle.timestamps.specs.Timestamp.{Ms}
 use Rattle.timestamps.specs.Timestamps.{front, behind, COLON, DOT, digit, shaped, minutes, minutes_ms, hours_ms, time_of, capped}
 
 -- ---- bytes at their places

@@ -4,8 +4,7 @@ use Rattle.std.proofs.Math.Option.{Option, none, some}
 use Rattle.base.specs.Choice.{pick, both, within}
 use Rattle.utf8.specs.Utf8.{Range}
 use Rattle.decimal.specs.Decimal.{value}
-use Rattle.timestamps.specs.declared.Timestamp.{Timestamp}
-use Rattle.timestamps.specs.declared.Timestamp.TheVariants.{Ms, Malformed}
+use Rattle.timestamps.specs.Timestamp.{Timestamp, Ms, Malformed}
 
 -- each byte passes a test
 abbrev pub All : (ℕ → Bool) → List ℕ → Type 0

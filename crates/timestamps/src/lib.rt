@@ -1,27 +1,13 @@
 // WebVTT timestamps.
 #![tactic(auto)]
 
-ghost use Rattle.std.specs.Prelude.{◌≡◌, true, [], ◌∷◌, ◌++◌, ◌+◌, ◌-◌, ◌≤◌, min, length, take, drop, get_or};
+ghost use Rattle.std.specs.Prelude.{◌≡◌, true, [], ◌∷◌, ◌++◌, ◌+◌, ◌-◌, ◌≤◌, min, length, take, drop, get_or, Some};
 ghost use Rattle.base.specs.Choice.{both, within};
 ghost use Rattle.base.specs.Over.{wrote};
 ghost use Rattle.decimal.specs.Decimal.{value};
 ghost use Rattle.timestamps.specs.Timestamps.{front, behind, digit, shaped, minutes, minutes_ms, hours_ms, time_of, capped, answered, two, three, time_text};
 
 use ascii::is_within;
-
-// The milliseconds of a timestamp, at most 360,000,000; or it is none.
-#[derive(Clone, Copy)]
-pub enum Timestamp {
-    Ms(u32),
-    Malformed,
-}
-
-// The digits that a text begins with: how many, and their number, at most 100.
-#[derive(Clone, Copy)]
-struct Hours {
-    count: usize,
-    number: u32,
-}
 
 // The digits that a text begins with: how many, and their number, up to a limit.
 #[derive(Clone, Copy)]
@@ -35,7 +21,7 @@ pub fn number_of(b: u8) -> u32
     requires { digit b ≡ true }
     ensures { (result ≡ b - 48) × (result ≤ 9) }
 {
-    b as u32 - 48
+    u32::from(b) - 48
 }
 
 fn two_digits(s: &[u8], at: usize) -> u32
@@ -50,26 +36,18 @@ fn is_pair(s: &[u8], at: usize, most: u8, mark: u8) -> bool
     requires { at + 3 ≤ length s.now }
     ensures { result ≡ both (within 48 most (get_or s.now at 0)) (both (within 48 57 (get_or s.now (at + 1) 0)) (within mark mark (get_or s.now (at + 2) 0))) }
 {
-    if !is_within(b'0', most, s[at]) {
-        return false;
-    }
-    if !is_within(b'0', b'9', s[at + 1]) {
-        return false;
-    }
-    is_within(mark, mark, s[at + 2])
+    is_within(b'0', most, s[at])
+        && is_within(b'0', b'9', s[at + 1])
+        && is_within(mark, mark, s[at + 2])
 }
 
 fn is_thousand(s: &[u8], at: usize) -> bool
     requires { at + 3 ≤ length s.now }
     ensures { result ≡ both (within 48 57 (get_or s.now at 0)) (both (within 48 57 (get_or s.now (at + 1) 0)) (within 48 57 (get_or s.now (at + 2) 0))) }
 {
-    if !is_within(b'0', b'9', s[at]) {
-        return false;
-    }
-    if !is_within(b'0', b'9', s[at + 1]) {
-        return false;
-    }
-    is_within(b'0', b'9', s[at + 2])
+    is_within(b'0', b'9', s[at])
+        && is_within(b'0', b'9', s[at + 1])
+        && is_within(b'0', b'9', s[at + 2])
 }
 
 // Whether the nine bytes from `at` are `mm:ss.mmm`.
@@ -94,91 +72,67 @@ fn minutes_ms(s: &[u8], at: usize) -> u32
     two_digits(s, at) * 60000 + two_digits(s, at + 3) * 1000 + ms
 }
 
-// The hours that a text begins with. A number above 100 stays 100, so that no number of digits wraps.
-fn read_hours(s: &[u8]) -> Hours
-    ensures { (result.count ≡ length (front digit s.now)) × (result.number ≡ min (value (front digit s.now)) 100) }
-{
-    let mut number = 0;
-    let mut i = 0;
-    while i < s.len() {
-        if !is_within(b'0', b'9', s[i]) {
-            return Hours { count: i, number };
-        }
-        number = number * 10 + number_of(s[i]);
-        if 100 < number {
-            number = 100;
-        }
-        i += 1;
-    }
-    Hours { count: i, number }
-}
-
 // The digits that a text begins with. A number above `most` stays `most`, so that no number of digits wraps.
 pub fn read_digits(s: &[u8], most: u32) -> Digits
     requires { most ≤ 100000 }
     ensures { (result.count ≡ length (front digit s.now)) × (result.number ≡ min (value (front digit s.now)) most) }
 {
     let mut number = 0;
-    let mut i = 0;
-    while i < s.len() {
-        if !is_within(b'0', b'9', s[i]) {
+    for (i, &b) in s.iter().enumerate() {
+        if !is_within(b'0', b'9', b) {
             return Digits { count: i, number };
         }
-        number = number * 10 + number_of(s[i]);
-        if most < number {
-            number = most;
-        }
-        i += 1;
+        number = (number * 10 + number_of(b)).min(most);
     }
-    Digits { count: i, number }
+    Digits {
+        count: s.len(),
+        number,
+    }
 }
 
 // The answer for a time.
-fn capped_ms(t: u32) -> Timestamp
-    ensures { result ≡ Timestamp.Ms (capped t) }
+fn capped_ms(t: u32) -> Option<u32>
+    ensures { result ≡ Some (capped t) }
 {
-    if 360000000 < t {
-        return Timestamp::Ms(360000000);
-    }
-    Timestamp::Ms(t)
+    Some(t.min(360000000))
 }
 
 // With hours of any number of digits in front of `mm:ss.mmm`.
-fn read_long(s: &[u8]) -> Timestamp
+fn read_long(s: &[u8]) -> Option<u32>
     ensures { result ≡ answered (hours_ms (front digit s.now) (behind digit s.now)) }
 {
-    let hours = read_hours(s);
+    let hours = read_digits(s, 100);
     let n = hours.count;
     if n < 2 {
-        return Timestamp::Malformed;
+        return None;
     }
     if s.len() - n != 10 {
-        return Timestamp::Malformed;
+        return None;
     }
     if s[n] != b':' {
-        return Timestamp::Malformed;
+        return None;
     }
     if !is_minutes(s, n + 1) {
-        return Timestamp::Malformed;
+        return None;
     }
     capped_ms(hours.number * 3600000 + minutes_ms(s, n + 1))
 }
 
 // `hh:mm:ss.mmm`, as most timestamps are.
-fn read_usual(s: &[u8]) -> Timestamp
+fn read_usual(s: &[u8]) -> Option<u32>
     requires { length s.now ≡ 12 }
     ensures { result ≡ answered (hours_ms (front digit s.now) (behind digit s.now)) }
 {
     if !is_pair(s, 0, b'9', b':') {
-        return Timestamp::Malformed;
+        return None;
     }
     if !is_minutes(s, 3) {
-        return Timestamp::Malformed;
+        return None;
     }
-    Timestamp::Ms(two_digits(s, 0) * 3600000 + minutes_ms(s, 3))
+    Some(two_digits(s, 0) * 3600000 + minutes_ms(s, 3))
 }
 
-pub fn read_timestamp(s: &[u8]) -> Timestamp
+pub fn read_timestamp(s: &[u8]) -> Option<u32>
     ensures { result ≡ answered (time_of s.now) }
 {
     if s.len() == 12 {
@@ -188,9 +142,9 @@ pub fn read_timestamp(s: &[u8]) -> Timestamp
         return read_long(s);
     }
     if !is_minutes(s, 0) {
-        return Timestamp::Malformed;
+        return None;
     }
-    Timestamp::Ms(minutes_ms(s, 0))
+    Some(minutes_ms(s, 0))
 }
 
 // Two digits, and a mark behind them.

@@ -2,7 +2,7 @@
 use Prim.Native.Nat.{ℕ, ◌<◌}
 use mathlib.Core.Path.{◌≡◌}
 use mathlib.Core.List.{List}
-use Rattle.verdict.specs.declared.Verdict.TheVariants.{Fine}
+use Rattle.verdict.specs.Verdict.{Fine}
 use Rattle.wvtt.specs.Sample.{judge_sample}
 use Rattle.table.specs.Table.{row_count, duration_of}
 use Rattle.table.proofs.Laws.{readable-iff}

@@ -4,7 +4,7 @@ use mathlib.Core.Path.{◌≡◌, ap}
 use mathlib.Core.List.{List}
 use native.Mathlib.Omega.{arith}
 use lib.ListN.{length}
-use Rattle.verdict.specs.declared.Verdict.TheVariants.{Fine}
+use Rattle.verdict.specs.Verdict.{Fine}
 use Rattle.timeline.specs.Tracks.{Sample, Positive}
 use Rattle.timeline.proofs.Listing.{length-listed, mem-listed, listed-mem}
 use Rattle.table.specs.Table.{row_count, duration_of}

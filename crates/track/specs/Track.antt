@@ -1,7 +1,6 @@
 -- Tracks of WebVTT samples: a table and the samples back to back. Document 01, 'Tracks and packing'.
 use Rattle.std.specs.Prelude.{ℕ, ◌<◌, ◌≡◌, ◌↔◌, List}
-use Rattle.verdict.specs.declared.Verdict.{Verdict}
-use Rattle.verdict.specs.declared.Verdict.TheVariants.{Fine}
+use Rattle.verdict.specs.Verdict.{Verdict, Fine}
 use Rattle.timeline.specs.Lists.{listed}
 use Rattle.timeline.specs.Tracks.{Sample}
 use Rattle.table.specs.Table.{row_count, duration_of, bytes_of, judge_row_by, judge_rows, ReadableBy}

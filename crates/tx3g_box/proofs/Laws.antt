@@ -5,17 +5,18 @@ use mathlib.Core.List.{List}
 use native.Mathlib.Omega.{arith}
 use native.Mathlib.Nat.{add-sub_cancel_left}
 use lib.ListN.{length, take, drop, length-take, length-drop}
-use Rattle.bodies.specs.declared.Body.{Body}
-use Rattle.bodies.specs.declared.Body.TheVariants.{At, Refused as Stopped, Nowhere as NoBody}
+use Rattle.bodies.specs.Body.{Body, At, Refused as Stopped, Nowhere as NoBody}
 use Rattle.tx3g_contents.specs.Kinds.{tbox, single, known}
 use Rattle.tx3g_contents.proofs.Laws.{end-tbox}
 use Rattle.tx3g_entry.proofs.Laws.{entry-fine}
-use Rattle.tx3g_sample.specs.declared.Reading.{Reading}
-use Rattle.tx3g_sample.specs.declared.Reading.TheVariants.{Good, BadEntry as EntryRefused, BadSample as SampleRefused}
+use Rattle.tx3g_sample.specs.Reading.{Reading, Good, BadEntry as EntryRefused, BadSample as SampleRefused}
 use Rattle.tx3g_sample.specs.Sample.{read_sample}
+use Rattle.std.proofs.Common.{Err}
+use Rattle.tx3g_sample.specs.declared.Fault.{Fault}
+use Rattle.tx3g_sample.specs.declared.Fault.TheVariants.{Entry as OfEntry, Sample as OfSample}
+use Rattle.tx3g_sample.proofs.Errors.{err_by}
 use Rattle.tx3g_sample.proofs.Laws.{read-good, content-lies, boxes-whole}
-use Rattle.tx3g_box.specs.declared.Spot.{Spot}
-use Rattle.tx3g_box.specs.declared.Spot.TheVariants.{Sample, Entry}
+use Rattle.tx3g_box.specs.Spot.{Spot, Sample, Entry}
 use Rattle.tx3g_box.specs.TextBox.{boxes_of, spot_in, spot_by, spot_of, bytes_at}
 
 body-lies : (e s : List ℕ) (n b : ℕ) → read_sample e s ≡ Good n → boxes_of s ≡ At b → b + 8 ≤ length s
@@ -65,3 +66,14 @@ sample-eight e s b p h q = let w = sample-fits e s b (sym h ∙ q) in rw q (rw (
 
 pub entry-eight : (e s : List ℕ) (p : Spot) → p ≡ spot_of e s → p ≡ Entry → 8 ≤ length (bytes_at e s p)
 entry-eight e s p h q = let w = entry-fits e s (sym h ∙ q) in rw q (rw (length-take 8 (drop 26 e), length-drop 26 e) (omega arith))
+
+-- a fault is passed up: of the reading, and of a header before the box
+pub unread : (s : List ℕ) (t : Reading) (d : Fault) → t ≡ Err d → spot_by s t ≡ Err d
+unread s (Good n) d h = let z : ◌≡◌ {A = ℕ} 0 1 = cc in absurd (omega arith)
+unread s (EntryRefused r) d h = let z : OfEntry r ≡ d = cc in ap Err z
+unread s (SampleRefused r) d h = let z : OfSample r ≡ d = cc in ap Err z
+
+pub spot-by : (t : Body) → err_by OfSample t ≡ spot_in t
+spot-by (At b) = refl
+spot-by (Stopped r) = refl
+spot-by NoBody = refl

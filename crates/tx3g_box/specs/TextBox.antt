@@ -1,15 +1,12 @@
 -- The text box in force. Document 01, '3GPP text': handed out as the eight bytes where they stand, in the sample or else in the entry; no bytes when refused.
 use Rattle.std.specs.Prelude.{ℕ, ◌+◌, List, [], length, take, drop}
 use Rattle.boxes.specs.Boxes.{boxes_in}
-use Rattle.bodies.specs.declared.Body.{Body}
-use Rattle.bodies.specs.declared.Body.TheVariants.{At, Refused as Stopped, Nowhere as NoBody}
+use Rattle.bodies.specs.Body.{Body, At, Refused as Stopped, Nowhere as NoBody}
 use Rattle.bodies.specs.Bodies.{body_of}
 use Rattle.tx3g_contents.specs.Kinds.{tbox}
-use Rattle.tx3g_sample.specs.declared.Reading.{Reading}
-use Rattle.tx3g_sample.specs.declared.Reading.TheVariants.{Good, BadEntry as EntryRefused, BadSample as SampleRefused}
+use Rattle.tx3g_sample.specs.Reading.{Reading, Good, BadEntry as EntryRefused, BadSample as SampleRefused}
 use Rattle.tx3g_sample.specs.Sample.{text_end, read_sample}
-use Rattle.tx3g_box.specs.declared.Spot.{Spot}
-use Rattle.tx3g_box.specs.declared.Spot.TheVariants.{Sample, Entry, BadEntry, BadSample}
+use Rattle.tx3g_box.specs.Spot.{Spot, Sample, Entry, BadEntry, BadSample}
 
 -- where the body of the `tbox` begins
 unfoldable pub boxes_of : List ℕ → Body

@@ -8,7 +8,7 @@ ghost use Rattle.tx3g_contents.specs.Contents.{styles_end, karaoke_end, link_end
 
 use bodies::judge_end;
 use fields::{get8, get16};
-use verdict::{Verdict, refused};
+use verdict::{Reason, Verdict};
 
 pub const STYL: u32 = 0x7374796C;
 
@@ -32,45 +32,21 @@ pub const TWRP: u32 = 0x74777270;
 pub fn is_ranged(kind: u32) -> bool
     ensures { result ≡ ranged kind }
 {
-    if kind == HLIT {
-        return true;
-    }
-    if kind == BLNK {
-        return true;
-    }
-    kind == HREF
+    matches!(kind, HLIT | BLNK | HREF)
 }
 
 // The boxes that a sample holds at most once each.
 pub fn is_single(kind: u32) -> bool
     ensures { result ≡ single kind }
 {
-    if kind == STYL {
-        return true;
-    }
-    if kind == HCLR {
-        return true;
-    }
-    if kind == KROK {
-        return true;
-    }
-    if kind == DLAY {
-        return true;
-    }
-    if kind == TBOX {
-        return true;
-    }
-    kind == TWRP
+    matches!(kind, STYL | HCLR | KROK | DLAY | TBOX | TWRP)
 }
 
 // The modifier boxes.
 pub fn is_known(kind: u32) -> bool
     ensures { result ≡ known kind }
 {
-    if is_single(kind) {
-        return true;
-    }
-    is_ranged(kind)
+    is_single(kind) || is_ranged(kind)
 }
 
 fn judge_styles_end(s: &[u8], place: usize, body: usize, next: usize) -> Verdict
@@ -78,7 +54,7 @@ fn judge_styles_end(s: &[u8], place: usize, body: usize, next: usize) -> Verdict
     ensures { result ≡ filled place (styles_end s.now body) next }
 {
     if next - body < 2 {
-        return refused(1, place);
+        return Reason::BytesMissing.refused(place);
     }
     let count = get16(s, body) as usize;
     judge_end(place, body + 2 + count * 12, next)
@@ -89,7 +65,7 @@ fn judge_karaoke_end(s: &[u8], place: usize, body: usize, next: usize) -> Verdic
     ensures { result ≡ filled place (karaoke_end s.now body) next }
 {
     if next - body < 6 {
-        return refused(1, place);
+        return Reason::BytesMissing.refused(place);
     }
     let count = get16(s, body + 4) as usize;
     judge_end(place, body + 6 + count * 8, next)
@@ -100,11 +76,11 @@ fn judge_link_end(s: &[u8], place: usize, body: usize, next: usize) -> Verdict
     ensures { result ≡ filled place (link_end s.now body) next }
 {
     if next - body < 5 {
-        return refused(1, place);
+        return Reason::BytesMissing.refused(place);
     }
     let alternative = body + 5 + get8(s, body + 4) as usize;
     if next <= alternative {
-        return refused(1, place);
+        return Reason::BytesMissing.refused(place);
     }
     let length = get8(s, alternative) as usize;
     judge_end(place, alternative + 1 + length, next)
@@ -114,13 +90,11 @@ fn judge_link_end(s: &[u8], place: usize, body: usize, next: usize) -> Verdict
 fn fixed_size(kind: u32) -> usize
     ensures { (result ≡ fixed_size kind) × (result ≤ 8) }
 {
-    if kind == TBOX {
-        return 8;
+    match kind {
+        TBOX => 8,
+        TWRP => 1,
+        _ => 4,
     }
-    if kind == TWRP {
-        return 1;
-    }
-    4
 }
 
 // Whether the content fills the body of a modifier box.
@@ -128,15 +102,10 @@ pub fn judge_content(s: &[u8], place: usize, kind: u32, body: usize, next: usize
     requires { (body ≤ next) × (next ≤ length s.now) }
     ensures { result ≡ filled place (content_end s.now kind body) next }
 {
-    if kind == STYL {
-        return judge_styles_end(s, place, body, next);
+    match kind {
+        STYL => judge_styles_end(s, place, body, next),
+        KROK => judge_karaoke_end(s, place, body, next),
+        HREF => judge_link_end(s, place, body, next),
+        _ => judge_end(place, body + fixed_size(kind), next),
     }
-    if kind == KROK {
-        return judge_karaoke_end(s, place, body, next);
-    }
-    if kind == HREF {
-        return judge_link_end(s, place, body, next);
-    }
-    let size = fixed_size(kind);
-    judge_end(place, body + size, next)
 }

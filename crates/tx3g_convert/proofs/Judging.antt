@@ -12,8 +12,7 @@ use Rattle.base.specs.Over.{over}
 use Rattle.base.proofs.Choice.{either, by-test}
 use Rattle.base.proofs.Tests.{one-of-first, one-of-second}
 use Rattle.base.proofs.Over.{take-over}
-use Rattle.verdict.specs.declared.Verdict.{Verdict}
-use Rattle.verdict.specs.declared.Verdict.TheVariants.{Fine, Refused}
+use Rattle.verdict.specs.Verdict.{Verdict, Fine, Refused}
 use Rattle.verdict.specs.Judgement.{refuse, ◌gives◌at◌, ◌then◌}
 use Rattle.verdict.proofs.Judgement.{then-fine, both-fine, not-given, text-right}
 use Rattle.text.specs.Rules.{identifier_text, payload_text}
@@ -30,8 +29,7 @@ use Rattle.tx3g_payload_write.specs.Terms.{MadeIs}
 use Rattle.tx3g_tidy.specs.Tidy.{tidy_in}
 use Rattle.tx3g_tidy.proofs.Samples.{tidy-rule}
 use Rattle.tx3g_convert.specs.declared.State.{State}
-use Rattle.tx3g_convert.specs.declared.Turn.{Turn}
-use Rattle.tx3g_convert.specs.declared.Turn.TheVariants.{On}
+use Rattle.tx3g_convert.specs.Turn.{Turn, On}
 use Rattle.tx3g_convert.specs.Convert.{has_text, judge_told}
 use Rattle.tx3g_convert.specs.Terms.{told, Ruled, past_limits, Sized, behind_of, turn_by}
 

@@ -1,4 +1,7 @@
 -- The answer of measuring, case by case; and what an answer that is done says.
+use Rattle.std.proofs.Common.{Ok, Err}
+use Rattle.tx3g_convert.specs.declared.CueList.{CueList}
+use Rattle.tx3g_convert.specs.declared.Fault.{Fault}
 use Prim.Native.Nat.{ℕ, ◌*◌, ◌≤◌, ◌<◌}
 use mathlib.Core.Path.{◌≡◌, refl, sym, ap, ap₂, ◌∙◌}
 use mathlib.Core.Bool.{true, false, not}
@@ -7,8 +10,7 @@ use native.Mathlib.Omega.{arith}
 use borrow.Author.Tests.{not-false, lt-ltb, le-ltb}
 use lib.ListN.{length}
 use Rattle.verdict.specs.declared.Refusal.{Refusal}
-use Rattle.verdict.specs.declared.Verdict.{Verdict}
-use Rattle.verdict.specs.declared.Verdict.TheVariants.{Fine, Refused}
+use Rattle.verdict.specs.Verdict.{Verdict, Fine, Refused}
 use Rattle.verdict.specs.Judgement.{fault, ◌gives◌at◌}
 use Rattle.verdict.proofs.Judgement.{then-fine, then-refused, both-fine, not-given}
 use Rattle.times.specs.Times.{back, scale_allowed, timeline_allowed}
@@ -19,8 +21,7 @@ use Rattle.tx3g_entry.specs.Entry.{judge_entry}
 use Rattle.tx3g_stock.specs.declared.Counts.{Counts}
 use Rattle.tx3g_stock.specs.Stock.{judge_stock, counts_of}
 use Rattle.tx3g_convert.specs.declared.State.{State}
-use Rattle.tx3g_convert.specs.declared.Converted.{Converted}
-use Rattle.tx3g_convert.specs.declared.Converted.TheVariants.{Done, BadEntry, BadTrack, NoRoom}
+use Rattle.tx3g_convert.specs.Converted.{Converted, Done, BadEntry, BadTrack, NoRoom}
 use Rattle.tx3g_convert.specs.Convert.{told_of, stock_cues, stock_ms, judge_tolds, judge_cues, by_entry, by_track, done_with, convert_room, roomed, convert_of, out_of}
 use Rattle.tx3g_convert.specs.Terms.{Ended, Ready}
 
@@ -101,6 +102,9 @@ pub record DoneSo (scale : ℕ) (e table samples : List ℕ) (n r p t : ℕ) (c 
   pub total : t ≡ stock_ms scale e table samples
   pub counts : c ≡ counts_of table samples
 
+done_same : (x y : CueList) → ◌≡◌ {A = Converted} (Ok x) (Ok y) → x ≡ y
+done_same x y e = cc
+
 pub done-so : (scale : ℕ) (e table samples : List ℕ) (n r p t : ℕ) (c : Counts) → convert_room scale e table samples ≡ Done n r p t c → DoneSo scale e table samples n r p t c
 unfolding convert_room judge_cues done_with
 done-so scale e table samples n r p t c q =
@@ -109,38 +113,38 @@ done-so scale e table samples n r p t c q =
     let d = by-track (judge_cues scale e table samples) _ n r p t c b.1 in
     let f = both-fine (judge_stock e table samples) _ d.0 in
     let g = both-fine (judge_tolds scale 0 0 0 (told_of e table samples)) _ f.1 in
-    let m : stock_ms scale e table samples ≡ t = cc in
+    let z = done_same _ _ d.1 in
+    let m : stock_ms scale e table samples ≡ t = ap (λ (x : CueList). x.t) z in
     record {
       scaled = not-false (scale_allowed scale) (not-given (not (scale_allowed scale)) 10 0 a.0);
       entry = b.0;
       track = f.0;
       fine = g.0;
       allowed = rw (← m) (not-false (timeline_allowed scale (stock_ms scale e table samples)) (not-given (not (timeline_allowed scale (stock_ms scale e table samples))) 10 (length (stock_cues e table samples)) g.1));
-      cues = cc;
-      records = cc;
-      pool = cc;
-      total = cc;
-      counts = cc;
+      cues = sym (ap (λ (x : CueList). x.cues) z);
+      records = sym (ap (λ (x : CueList). x.records) z);
+      pool = sym (ap (λ (x : CueList). x.pool) z);
+      total = sym m;
+      counts = sym (ap (λ (x : CueList). x.dropped) z);
     }
 
 -- ---- the answer by the room that there is
 
 -- no success
 abbrev NotDone : Converted → Type 0
-NotDone (Done n r p t c) = ⊥
+NotDone (Ok x) = ⊥
 NotDone (BadEntry r) = Unit {0}
 NotDone (BadTrack r) = Unit {0}
 NotDone (NoRoom r) = Unit {0}
 
--- in the `else` of `let Converted::Done { .. } = room else`
-pub not_done : (x : Converted) → ((n r p t : ℕ) (c : Counts) → x ≡ Done n r p t c → ⊥) → NotDone x
-not_done (Done n r p t c) h = absurd (h n r p t c refl)
-not_done (BadEntry r) h = tt
-not_done (BadTrack r) h = tt
-not_done (NoRoom r) h = tt
+pub not_done : (x : Converted) (d : Fault) → x ≡ Err d → NotDone x
+not_done (Ok x) d h = let z : ◌≡◌ {A = ℕ} 0 1 = cc in absurd (omega arith)
+not_done (BadEntry r) d h = tt
+not_done (BadTrack r) d h = tt
+not_done (NoRoom r) d h = tt
 
 stays : (x : Converted) (a b : ℕ) (new old : List ℕ) → NotDone x → (x ≡ roomed a b x) × (old ≡ out_of x new old)
-stays (Done n r p t c) a b new old h = absurd h
+stays (Ok x) a b new old h = absurd h
 stays (BadEntry r) a b new old h = (refl, refl)
 stays (BadTrack r) a b new old h = (refl, refl)
 stays (NoRoom r) a b new old h = (refl, refl)

@@ -12,8 +12,7 @@ use lib.Seq.{get_or-drop, drop-drop}
 use Rattle.base.specs.Choice.{pick, keep}
 use Rattle.base.proofs.Choice.{true-false}
 use Rattle.verdict.specs.declared.Refusal.{Refusal}
-use Rattle.verdict.specs.declared.Verdict.{Verdict}
-use Rattle.verdict.specs.declared.Verdict.TheVariants.{Fine, Refused}
+use Rattle.verdict.specs.Verdict.{Verdict, Fine, Refused}
 use Rattle.verdict.specs.Judgement.{◌then◌}
 use Rattle.verdict.proofs.Judgement.{then-fine, then-refused, both-fine}
 use Rattle.timeline.specs.Cues.{Cue}
@@ -23,8 +22,7 @@ use Rattle.records_write.specs.Records.{texts_of, pool_to, pool_of}
 use Rattle.table.specs.Table.{row_count, duration_of, bytes_of}
 use Rattle.tx3g_payload_write.specs.Sample.{payload_in}
 use Rattle.tx3g_convert.specs.declared.State.{State}
-use Rattle.tx3g_convert.specs.declared.Turn.{Turn}
-use Rattle.tx3g_convert.specs.declared.Turn.TheVariants.{On, Stopped}
+use Rattle.tx3g_convert.specs.Turn.{Turn, On, Stopped}
 use Rattle.tx3g_convert.specs.Convert.{Told, told_at, told_of, has_text, counting, cue_of, cues_from, ticks_of, stock_cues, judge_told, judge_tolds}
 use Rattle.tx3g_convert.specs.Terms.{told, behind_of, Low, turn_by, Ended}
 use Rattle.tx3g_convert.proofs.Judging.{has-text, fine-cue, turn_of}

@@ -10,7 +10,7 @@ use lib.ListN.{length, take, drop}
 use Rattle.base.specs.Choice.{pick, keep}
 use Rattle.base.specs.Over.{over}
 use Rattle.base.proofs.Over.{over-nil}
-use Rattle.verdict.specs.declared.Verdict.TheVariants.{Fine}
+use Rattle.verdict.specs.Verdict.{Fine}
 use Rattle.times.specs.Times.{back}
 use Rattle.times.proofs.Laws.{back-mono}
 use Rattle.timeline.specs.Cues.{Cue}

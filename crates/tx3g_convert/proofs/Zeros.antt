@@ -9,7 +9,7 @@ use lib.ListN.{length, take, get_or}
 use lib.Seq.{take-suc}
 use Rattle.base.specs.Choice.{pick, both, any_of}
 use Rattle.ascii.proofs.Blocks.{or-none, mark-none}
-use Rattle.verdict.specs.declared.Verdict.TheVariants.{Fine}
+use Rattle.verdict.specs.Verdict.{Fine}
 use Rattle.boxes.specs.Boxes.{part}
 use Rattle.tx3g_sample.specs.Sample.{text_end, characters_in, judge_sample}
 use Rattle.tx3g_payload.specs.Points.{points_of}

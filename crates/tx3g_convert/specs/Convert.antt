@@ -1,10 +1,10 @@
 -- The conversion of a `tx3g` track into dense cue records and pool. Document 02, K9.
+use Rattle.std.specs.Prelude.{Ok}
 use Rattle.std.specs.Prelude.{ℕ, suc, ◌+◌, List, [], ◌∷◌, Bool, true, false, not, leb, ltb, length}
 use Rattle.std.proofs.Math.Option.{some}
 use Rattle.base.specs.Choice.{pick, keep}
 use Rattle.base.specs.Over.{over}
-use Rattle.verdict.specs.declared.Verdict.{Verdict}
-use Rattle.verdict.specs.declared.Verdict.TheVariants.{Fine, Refused}
+use Rattle.verdict.specs.Verdict.{Verdict, Fine, Refused}
 use Rattle.verdict.specs.Judgement.{fault, ◌gives◌at◌, ◌then◌}
 use Rattle.times.specs.Times.{back, scale_allowed, timeline_allowed}
 use Rattle.timeline.specs.Lists.{listed}
@@ -16,8 +16,7 @@ use Rattle.tx3g_entry.specs.Entry.{judge_entry}
 use Rattle.tx3g_stock.specs.declared.Counts.{Counts}
 use Rattle.tx3g_stock.specs.Stock.{judge_stock, counts_of}
 use Rattle.tx3g_payload_write.specs.Sample.{payload_in}
-use Rattle.tx3g_convert.specs.declared.Converted.{Converted}
-use Rattle.tx3g_convert.specs.declared.Converted.TheVariants.{Done, BadEntry, BadTrack, NoRoom}
+use Rattle.tx3g_convert.specs.Converted.{Converted, Done, BadEntry, BadTrack, NoRoom}
 
 -- ---- the cues
 
@@ -115,7 +114,7 @@ convert_room scale e table samples =
 
 -- 15: the records do not fit (place 0), the pool does not (place 1)
 abbrev pub roomed : ℕ → ℕ → Converted → Converted
-roomed records pool (Done n r p t c) = pick (ltb records r) (NoRoom (fault 15 0)) (pick (ltb pool p) (NoRoom (fault 15 1)) (Done n r p t c))
+roomed records pool (Ok x) = pick (ltb records x.records) (NoRoom (fault 15 0)) (pick (ltb pool x.pool) (NoRoom (fault 15 1)) (Done x.cues x.records x.pool x.t x.dropped))
 roomed records pool (BadEntry r) = BadEntry r
 roomed records pool (BadTrack r) = BadTrack r
 roomed records pool (NoRoom r) = NoRoom r
@@ -127,7 +126,7 @@ convert_of scale e table samples records pool = roomed records pool (convert_roo
 
 -- an output: the bytes over its front on success, else as it was
 abbrev pub out_of : Converted → List ℕ → List ℕ → List ℕ
-out_of (Done n r p t c) new old = over new old
+out_of (Ok x) new old = over new old
 out_of (BadEntry r) new old = old
 out_of (BadTrack r) new old = old
 out_of (NoRoom r) new old = old

@@ -1,2 +1,4 @@
+pub mod Converted
+pub mod Turn
 pub mod Convert
 pub mod Terms

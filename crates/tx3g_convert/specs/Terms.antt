@@ -2,8 +2,7 @@
 use Rattle.std.specs.Prelude.{ℕ, ◌+◌, ◌*◌, ◌≤◌, ◌<◌, ◌≡◌, Bool, true, false, not, List, leb, ltb, length}
 use Rattle.base.specs.Choice.{any_of}
 use Rattle.base.specs.Over.{wrote}
-use Rattle.verdict.specs.declared.Verdict.{Verdict}
-use Rattle.verdict.specs.declared.Verdict.TheVariants.{Fine, Refused}
+use Rattle.verdict.specs.Verdict.{Verdict, Fine, Refused}
 use Rattle.text.specs.Rules.{payload_text}
 use Rattle.times.specs.Times.{back}
 use Rattle.records_write.specs.Records.{record_of, records_of, pool_of}
@@ -11,8 +10,7 @@ use Rattle.tx3g_entry.specs.Entry.{judge_entry}
 use Rattle.tx3g_payload.specs.Statements.{has_zero}
 use Rattle.tx3g_stock.specs.Stock.{judge_stock}
 use Rattle.tx3g_convert.specs.declared.State.{State}
-use Rattle.tx3g_convert.specs.declared.Turn.{Turn}
-use Rattle.tx3g_convert.specs.declared.Turn.TheVariants.{On, Stopped}
+use Rattle.tx3g_convert.specs.Turn.{Turn, On, Stopped}
 use Rattle.tx3g_convert.specs.Convert.{Told, told_of, counting, cue_of, ticks_of, stock_cues, judge_tolds}
 
 abbrev pub told : ℕ → List ℕ → Told

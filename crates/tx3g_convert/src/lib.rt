@@ -4,7 +4,7 @@
 ghost use Rattle.std.specs.Prelude.{◌≡◌, true, List, ℕ, min, ◌+◌, ◌*◌, ◌≤◌, ◌<◌, eqb, length};
 ghost use Rattle.base.specs.Choice.{pick};
 ghost use Rattle.base.specs.Over.{over};
-ghost use Rattle.verdict.specs.declared.Verdict.TheVariants.{Fine};
+ghost use Rattle.verdict.specs.Verdict.{Fine};
 ghost use Rattle.times.specs.Times.{back, scale_allowed};
 ghost use Rattle.records_write.specs.Records.{records_of, pool_of};
 ghost use Rattle.tx3g_entry.specs.Entry.{judge_entry};
@@ -24,21 +24,25 @@ use tx3g_entry::judge_entry;
 use tx3g_payload_write::make_payload;
 use tx3g_stock::{Counts, count_stock, judge_stock};
 use tx3g_tidy::{put_tidy, tidy_length};
-use verdict::{Refusal, Verdict, fault_at, refused};
+use verdict::{Reason, Refusal, Verdict};
 
-// How many cues, the lengths of records and pool in bytes, T in milliseconds and the boxes that were dropped; or whose fault it is: the entry's, the track's, or that of a short output.
+// A cue list that was written.
 #[derive(Clone, Copy)]
-pub enum Converted {
-    Done {
-        cues: usize,
-        records: usize,
-        pool: usize,
-        t: u32,
-        dropped: Counts,
-    },
-    BadEntry(Refusal),
-    BadTrack(Refusal),
-    NoRoom(Refusal),
+pub struct CueList {
+    pub cues: usize,
+    pub records: usize,
+    pub pool: usize,
+    pub t: u32,
+    pub dropped: Counts,
+}
+
+// Whose fault it is that there is no list.
+#[derive(Clone, Copy)]
+pub enum Fault {
+    Entry(Refusal),
+    Track(Refusal),
+    // The records or the pool lent are too short.
+    Room(Refusal),
 }
 
 // Behind some samples: the sum of their durations, the number of their cues, and the bytes of their texts.
@@ -47,13 +51,6 @@ struct State {
     tick: usize,
     cues: usize,
     size: usize,
-}
-
-// The state behind a sample, or why not.
-#[derive(Clone, Copy)]
-enum Turn {
-    On(State),
-    Stopped(Refusal),
 }
 
 const START: State = State {
@@ -67,11 +64,7 @@ fn ms_at(scale: u32, tick: usize) -> u32
     requires { (0 < scale) × (tick < 281474976710656) }
     ensures { result ≡ min (back scale tick) 360000000 }
 {
-    let m = ms_of(scale, tick as u64);
-    if 360000000 < m {
-        return 360000000;
-    }
-    m as u32
+    ms_of(scale, tick as u64).min(360000000) as u32
 }
 
 // The state behind a sample with a payload of n bytes; one without has no cue.
@@ -79,13 +72,9 @@ fn behind(state: State, duration: usize, n: usize) -> State
     requires { Low state duration × (n ≤ 4095) }
     ensures { result ≡ behind_of state duration n }
 {
-    let mut cues = state.cues;
-    if 0 < n {
-        cues += 1;
-    }
     State {
         tick: state.tick + duration,
-        cues,
+        cues: state.cues + usize::from(0 < n),
         size: state.size + n,
     }
 }
@@ -94,10 +83,7 @@ fn behind(state: State, duration: usize, n: usize) -> State
 fn zero_mark_of(b: u8) -> u8
     ensures { result ≡ pick (eqb b 0) 1 0 }
 {
-    if b == 0 {
-        return 1;
-    }
-    0
+    u8::from(b == 0)
 }
 
 // Whether a zero byte is among them. It does not end early, so that the compiler takes wide steps.
@@ -105,22 +91,17 @@ fn has_zero(s: &[u8]) -> bool
     ensures { result ≡ has_zero s.now }
 {
     let mut x = 0;
-    let mut i = 0;
-    while i < s.len() {
-        x = x | zero_mark_of(s[i]);
-        i += 1;
+    for &b in s {
+        x |= zero_mark_of(b);
     }
-    !(x == 0)
+    x != 0
 }
 
 // Whether a cue with a payload of n bytes is one too many, or its payload too long.
 fn past_limits(state: State, n: usize) -> bool
     ensures { result ≡ past_limits state.cues n }
 {
-    if 1024 <= state.cues {
-        return true;
-    }
-    4095 < n
+    1024 <= state.cues || 4095 < n
 }
 
 // Judges the cue of sample i, by the length n of a payload that keeps its rule.
@@ -129,14 +110,14 @@ fn judge_cue(scale: u32, state: State, duration: usize, i: usize, n: usize) -> V
     ensures { (p : List ℕ) → Sized state.cues n p → result ≡ judge_told true scale state.cues state.tick i (told duration p) }
 {
     if past_limits(state, n) {
-        return refused(9, i);
+        return Reason::PastLimit.refused(i);
     }
     let start = ms_at(scale, state.tick);
     let end = ms_at(scale, state.tick + duration);
     if bad_times(scale, 359999999, start, end) {
-        return refused(10, i);
+        return Reason::BadTime.refused(i);
     }
-    Verdict::Fine
+    Ok(())
 }
 
 // Judges the cue of sample i, by its payload of n bytes in the buffer, in which a zero byte alone can be bad.
@@ -152,17 +133,6 @@ fn judge_made(scale: u32, state: State, duration: usize, i: usize, buf: &[u8], n
     judge_content(scale, 359999999, 0, start, end, b"", b"", &buf[0..n], i)
 }
 
-// The state behind a cue with a payload of n bytes, or why it is refused.
-fn turn_by(verdict: Verdict, state: State, duration: usize, n: usize) -> Turn
-    requires { Low state duration × (verdict ≡ Fine → n ≤ 4095) }
-    ensures { result ≡ turn_by verdict (behind_of state duration n) }
-{
-    match verdict {
-        Verdict::Fine => Turn::On(behind(state, duration, n)),
-        Verdict::Refused(why) => Turn::Stopped(why),
-    }
-}
-
 // Judges sample i beside an entry without fault: 0 bytes of payload are no cue.
 fn take_sample(
     scale: u32,
@@ -172,93 +142,100 @@ fn take_sample(
     duration: usize,
     state: State,
     buf: &mut [u8],
-) -> Turn
+) -> Result<State, Refusal>
     requires { (0 < scale) × Low state duration × (judge_entry e.now ≡ Fine) × (judge_sample e.now s.now ≡ Fine) × (length buf.old ≡ 4128) }
     ensures { result ≡ turn_by (judge_told (has_text (payload_in e.now s.now)) scale state.cues state.tick i (told duration (payload_in e.now s.now))) (behind_of state duration (length (payload_in e.now s.now))) }
 {
     let known = tidy_length(e, s);
     if 0 < known {
-        let verdict = judge_cue(scale, state, duration, i, known);
-        return turn_by(verdict, state, duration, known);
+        judge_cue(scale, state, duration, i, known)?;
+        return Ok(behind(state, duration, known));
     }
     let n = make_payload(e, s, &mut *buf);
     if n == 0 {
-        return Turn::On(behind(state, duration, 0));
+        return Ok(behind(state, duration, 0));
     }
-    let verdict = judge_made(scale, state, duration, i, &*buf, n);
-    turn_by(verdict, state, duration, n)
+    judge_made(scale, state, duration, i, &*buf, n)?;
+    Ok(behind(state, duration, n))
 }
 
 // Judges the samples of a track without fault.
-fn take_samples(scale: u32, e: &[u8], table: &[u8], samples: &[u8], buf: &mut [u8]) -> Turn
+fn take_samples(
+    scale: u32,
+    e: &[u8],
+    table: &[u8],
+    samples: &[u8],
+    buf: &mut [u8],
+) -> Result<State, Refusal>
     requires { (0 < scale) × (judge_entry e.now ≡ Fine) × (judge_stock e.now table.now samples.now ≡ Fine) × (length buf.old ≡ 4128) }
     ensures { MeasuredIs scale e.now table.now samples.now result }
 {
     let count = table.len() / 8;
     let mut state = START;
     let mut at = 0;
-    let mut i = 0;
-    while i < count {
+    for i in 0..count {
         let end = at + size_at(table, i);
         let duration = duration_at(table, i) as usize;
-        match take_sample(scale, e, &samples[at..end], i, duration, state, &mut *buf) {
-            Turn::On(next) => {
-                state = next;
-            }
-            Turn::Stopped(why) => {
-                return Turn::Stopped(why);
-            }
-        }
+        state = take_sample(scale, e, &samples[at..end], i, duration, state, &mut *buf)?;
         at = end;
-        i += 1;
     }
-    Turn::On(state)
+    Ok(state)
 }
 
 // The room for the cues of a track without fault; T is judged.
-fn measure_cues(scale: u32, e: &[u8], table: &[u8], samples: &[u8], buf: &mut [u8]) -> Converted
+fn measure_cues(
+    scale: u32,
+    e: &[u8],
+    table: &[u8],
+    samples: &[u8],
+    buf: &mut [u8],
+) -> Result<CueList, Fault>
     requires { (scale_allowed scale ≡ true) × (judge_entry e.now ≡ Fine) × (judge_stock e.now table.now samples.now ≡ Fine) × (length buf.old ≡ 4128) }
     ensures { result ≡ convert_room scale e.now table.now samples.now }
 {
-    match take_samples(scale, e, table, samples, &mut *buf) {
-        Turn::Stopped(why) => Converted::BadTrack(why),
-        Turn::On(last) => {
-            if !total_allowed(scale, last.tick) {
-                return Converted::BadTrack(fault_at(10, last.cues));
-            }
-            Converted::Done {
-                cues: last.cues,
-                records: last.cues * 24,
-                pool: last.size,
-                t: ms_of(scale, last.tick as u64) as u32,
-                dropped: count_stock(table, samples),
-            }
-        }
+    let last = take_samples(scale, e, table, samples, &mut *buf).map_err(Fault::Track)?;
+    if !total_allowed(scale, last.tick) {
+        return Err(Fault::Track(Reason::BadTime.fault_at(last.cues)));
     }
+    Ok(CueList {
+        cues: last.cues,
+        records: last.cues * 24,
+        pool: last.size,
+        t: ms_of(scale, last.tick as u64) as u32,
+        dropped: count_stock(table, samples),
+    })
 }
 
 // The room for a track beside an entry without fault.
-fn measure_track(scale: u32, e: &[u8], table: &[u8], samples: &[u8], buf: &mut [u8]) -> Converted
+fn measure_track(
+    scale: u32,
+    e: &[u8],
+    table: &[u8],
+    samples: &[u8],
+    buf: &mut [u8],
+) -> Result<CueList, Fault>
     requires { (scale_allowed scale ≡ true) × (judge_entry e.now ≡ Fine) × (length buf.old ≡ 4128) }
     ensures { result ≡ convert_room scale e.now table.now samples.now }
 {
-    match judge_stock(e, table, samples) {
-        Verdict::Refused(why) => Converted::BadTrack(why),
-        Verdict::Fine => measure_cues(scale, e, table, samples, &mut *buf),
-    }
+    judge_stock(e, table, samples).map_err(Fault::Track)?;
+    measure_cues(scale, e, table, samples, &mut *buf)
 }
 
-fn measure(scale: u32, e: &[u8], table: &[u8], samples: &[u8], buf: &mut [u8]) -> Converted
+fn measure(
+    scale: u32,
+    e: &[u8],
+    table: &[u8],
+    samples: &[u8],
+    buf: &mut [u8],
+) -> Result<CueList, Fault>
     requires { length buf.old ≡ 4128 }
     ensures { result ≡ convert_room scale e.now table.now samples.now }
 {
     if !scale_allowed(scale) {
-        return Converted::BadTrack(fault_at(10, 0));
+        return Err(Fault::Track(Reason::BadTime.fault_at(0)));
     }
-    match judge_entry(e) {
-        Verdict::Refused(why) => Converted::BadEntry(why),
-        Verdict::Fine => measure_track(scale, e, table, samples, &mut *buf),
-    }
+    judge_entry(e).map_err(Fault::Entry)?;
+    measure_track(scale, e, table, samples, &mut *buf)
 }
 
 // Writes the record and the text of a cue.
@@ -296,9 +273,10 @@ fn put_sample(e: &[u8], s: &[u8], buf: &mut [u8]) -> usize
 {
     let put = put_tidy(e, s, &mut *buf);
     if 0 < put {
-        return put;
+        put
+    } else {
+        make_payload(e, s, &mut *buf)
     }
-    make_payload(e, s, &mut *buf)
 }
 
 // Writes the cue of a sample, if it has text left.
@@ -346,8 +324,7 @@ fn write_cues(
     let count = table.len() / 8;
     let mut state = START;
     let mut at = 0;
-    let mut i = 0;
-    while i < count {
+    for i in 0..count {
         let end = at + size_at(table, i);
         let duration = duration_at(table, i) as usize;
         state = write_sample(
@@ -361,12 +338,11 @@ fn write_cues(
             &mut *pool,
         );
         at = end;
-        i += 1;
     }
 }
 
 // The room that converting needs: what it answers where there is enough.
-pub fn convert_room(scale: u32, e: &[u8], table: &[u8], samples: &[u8]) -> Converted
+pub fn convert_room(scale: u32, e: &[u8], table: &[u8], samples: &[u8]) -> Result<CueList, Fault>
     ensures { result ≡ convert_room scale e.now table.now samples.now }
 {
     let mut buf = [0u8; 4128];
@@ -381,26 +357,16 @@ pub fn convert(
     samples: &[u8],
     records: &mut [u8],
     pool: &mut [u8],
-) -> Converted
+) -> Result<CueList, Fault>
     ensures { (result ≡ convert_of scale e.now table.now samples.now (length records.old) (length pool.old)) × (records.new ≡ out_of result (records_of scale (stock_cues e.now table.now samples.now)) records.old) × (pool.new ≡ out_of result (pool_of (stock_cues e.now table.now samples.now)) pool.old) }
 {
     let mut buf = [0u8; 4128];
-    let room = measure(scale, e, table, samples, &mut buf);
-    let Converted::Done {
-        cues: _,
-        records: rows,
-        pool: texts,
-        t: _,
-        dropped: _,
-    } = room
-    else {
-        return room;
-    };
-    if records.len() < rows {
-        return Converted::NoRoom(fault_at(15, 0));
+    let room = measure(scale, e, table, samples, &mut buf)?;
+    if records.len() < room.records {
+        return Err(Fault::Room(Reason::NoRoom.fault_at(0)));
     }
-    if pool.len() < texts {
-        return Converted::NoRoom(fault_at(15, 1));
+    if pool.len() < room.pool {
+        return Err(Fault::Room(Reason::NoRoom.fault_at(1)));
     }
     write_cues(
         scale,
@@ -411,5 +377,5 @@ pub fn convert(
         &mut *records,
         &mut *pool,
     );
-    room
+    Ok(room)
 }

@@ -9,7 +9,7 @@ use native.Mathlib.Nat.{not-suc-le-zero, le_of_lt}
 use lib.ListN.{length, get_or}
 use Rattle.base.proofs.Choice.{by-test, either}
 use Rattle.text.specs.Rules.{identifier_text}
-use Rattle.verdict.specs.declared.Verdict.TheVariants.{Fine}
+use Rattle.verdict.specs.Verdict.{Fine}
 use Rattle.verdict.specs.Judgement.{◌then◌}
 use Rattle.verdict.proofs.Judgement.{both-fine}
 use Rattle.times.specs.Times.{tick, back, timeline_allowed}
@@ -23,7 +23,7 @@ use Rattle.records_write.specs.Records.{id_of, records_of, pool_of}
 use Rattle.unpack_laws.proofs.Reading.{Fits}
 use Rattle.unpack_laws.proofs.Written.{tick-less, AllRight, written-fine}
 use Rattle.tx3g_stock.specs.declared.Counts.{Counts}
-use Rattle.tx3g_convert.specs.declared.Converted.TheVariants.{Done}
+use Rattle.tx3g_convert.specs.Converted.{Done}
 use Rattle.tx3g_convert.specs.Convert.{Told, told_of, has_text, counting, cue_of, cues_from, ticks_of, stock_cues, stock_ms, judge_told, judge_tolds, convert_room}
 use Rattle.tx3g_convert.proofs.Judging.{fine-cue}
 use Rattle.tx3g_convert.proofs.Rooms.{DoneSo, done-so, scale-some}

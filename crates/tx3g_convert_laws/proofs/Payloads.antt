@@ -8,15 +8,13 @@ use borrow.Author.Tests.{ltb-true, not-true, not-false}
 use lib.Dec.{leb, ltb}
 use lib.ListN.{length, get_or}
 use Rattle.base.proofs.Choice.{both_left, both_right, by-test}
-use Rattle.viable.specs.declared.Judged.{Judged}
-use Rattle.viable.specs.declared.Judged.TheVariants.{Right, Bad}
+use Rattle.viable.specs.Judged.{Judged, Right, Bad}
 use Rattle.viable.specs.FirstBad.{bytes, judged_by}
 use Rattle.text.specs.Rules.{identifier_text, payload_text}
 use Rattle.text.proofs.Rules.{empty-line, empty-payload}
 use Rattle.text.specs.Beginnings.{identifier_begun, payload_begun}
 use Rattle.verdict.specs.declared.Refusal.{Refusal}
-use Rattle.verdict.specs.declared.Verdict.{Verdict}
-use Rattle.verdict.specs.declared.Verdict.TheVariants.{Fine, Refused}
+use Rattle.verdict.specs.Verdict.{Verdict, Fine, Refused}
 use Rattle.verdict.specs.Judgement.{fault, bad_text, ◌gives◌at◌, text_at, ◌then◌}
 use Rattle.verdict.proofs.Judgement.{then-fine, text-right}
 use Rattle.times.specs.Times.{back, scale_allowed, timeline_allowed}
@@ -35,8 +33,7 @@ use Rattle.tx3g_payload_write.proofs.Texts.{part_bytes, counted-so, text-of-fine
 use Rattle.tx3g_stock.specs.declared.Counts.{Counts}
 use Rattle.tx3g_stock.specs.Stock.{judge_stock}
 use Rattle.tx3g_stock.proofs.Rows.{row_reads}
-use Rattle.tx3g_convert.specs.declared.Converted.{Converted}
-use Rattle.tx3g_convert.specs.declared.Converted.TheVariants.{Done, BadTrack}
+use Rattle.tx3g_convert.specs.Converted.{Converted, Done, BadTrack}
 use Rattle.tx3g_convert.specs.Convert.{Told, told_of, has_text, counting, stock_cues, stock_ms, judge_told, judge_tolds, judge_cues, by_entry, by_track, done_with, convert_room}
 use Rattle.tx3g_convert.proofs.Rooms.{done-so}
 use Rattle.tx3g_convert_laws.specs.Statements.{SampleRule, OnlyZeros, NoZeros}

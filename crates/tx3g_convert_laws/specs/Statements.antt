@@ -4,7 +4,7 @@ use Rattle.std.proofs.Math.Option.{some}
 use Rattle.viable.specs.FirstBad.{bytes}
 use Rattle.text.specs.Rules.{payload_text}
 use Rattle.verdict.specs.declared.Refusal.{Refusal}
-use Rattle.verdict.specs.declared.Verdict.TheVariants.{Fine}
+use Rattle.verdict.specs.Verdict.{Fine}
 use Rattle.times.specs.Times.{timeline_allowed}
 use Rattle.timeline.specs.Unpacking.{no_cue}
 use Rattle.code_points.specs.CodePoints.{encodings}
@@ -19,7 +19,7 @@ use Rattle.tx3g_payload.specs.Statements.{untagged, unescaped, has_zero}
 use Rattle.tx3g_payload_write.specs.Sample.{characters_at, payload_in}
 use Rattle.tx3g_stock.specs.declared.Counts.{Counts}
 use Rattle.tx3g_stock.specs.Stock.{kinds_in, judge_stock}
-use Rattle.tx3g_convert.specs.declared.Converted.TheVariants.{Done, BadTrack}
+use Rattle.tx3g_convert.specs.Converted.{Done, BadTrack}
 use Rattle.tx3g_convert.specs.Convert.{stock_cues, convert_room}
 
 -- packing finds no fault in what is converted, at the scale of the conversion, and at every scale of 1,000 or more at which T is allowed

@@ -5,14 +5,12 @@ use mathlib.Core.List.{List, []}
 use mathlib.Core.Bool.{not}
 use native.Mathlib.Omega.{arith}
 use lib.ListN.{length}
-use Rattle.verdict.specs.declared.Verdict.{Verdict}
-use Rattle.verdict.specs.declared.Verdict.TheVariants.{Fine, Refused}
+use Rattle.verdict.specs.Verdict.{Verdict, Fine, Refused}
 use Rattle.verdict.specs.Judgement.{◌gives◌at◌, ◌then◌}
 use Rattle.verdict.proofs.Judgement.{both-fine}
 use Rattle.fields.specs.BigEndian.{be}
 use Rattle.boxes.specs.Boxes.{judged, among}
-use Rattle.bodies.specs.declared.Body.{Body}
-use Rattle.bodies.specs.declared.Body.TheVariants.{At, Refused as Stopped, Nowhere}
+use Rattle.bodies.specs.Body.{Body, At, Refused as Stopped, Nowhere}
 use Rattle.bodies.proofs.Laws.{judged-found, NoBody}
 use Rattle.entry_head.specs.Head.{judge_head}
 use Rattle.entry_head.proofs.Laws.{head_fixed}

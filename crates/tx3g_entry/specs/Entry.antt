@@ -2,14 +2,12 @@
 -- Bytes: size 0, type 4, 6 unjudged, data reference index 14, display flags 16, justification 20 and 21, background 22, default text box 26, default style 34, boxes from 46.
 use Rattle.std.specs.Prelude.{ℕ, List, [], Bool, not, eqb, length}
 use Rattle.base.specs.Choice.{pick, both}
-use Rattle.verdict.specs.declared.Verdict.{Verdict}
-use Rattle.verdict.specs.declared.Verdict.TheVariants.{Fine, Refused}
+use Rattle.verdict.specs.Verdict.{Verdict, Fine, Refused}
 use Rattle.verdict.specs.Judgement.{◌gives◌at◌, ◌then◌, refuse}
 use Rattle.fields.specs.BigEndian.{be}
 use Rattle.boxes.specs.Boxes.{Boxes, boxes_in, judged, among}
 use Rattle.entry_head.specs.Head.{judge_head}
-use Rattle.bodies.specs.declared.Body.{Body}
-use Rattle.bodies.specs.declared.Body.TheVariants.{At, Refused as Stopped, Nowhere}
+use Rattle.bodies.specs.Body.{Body, At, Refused as Stopped, Nowhere}
 use Rattle.bodies.specs.Bodies.{body_of}
 use Rattle.signed.specs.Signed.{ordered, justified}
 use Rattle.tx3g_fonts.specs.Fonts.{has_font, judge_fonts}

@@ -13,7 +13,7 @@ use lib.Dec.{ltb, eqb}
 use borrow.Author.Tests.{eq-eqb, ne_eqb, eqb-true, eqb-false, lt-ltb}
 use Rattle.base.specs.Choice.{any_of}
 use Rattle.base.proofs.Choice.{by-test, true-false}
-use Rattle.verdict.specs.declared.Verdict.TheVariants.{Fine}
+use Rattle.verdict.specs.Verdict.{Fine}
 use Rattle.verdict.specs.Judgement.{◌gives◌at◌, ◌then◌, each, refuse}
 use Rattle.verdict.proofs.Judgement.{both-fine}
 use Rattle.fields.specs.BigEndian.{be}
@@ -45,6 +45,10 @@ module _ (s : List ℕ) (b : ℕ) where
 
   pub fonts-up : (k m : ℕ) → k < m → font_at s b k + 3 ≤ font_at s b m
   fonts-up k m h = let e : m ≡ k + (m - k) = omega arith in rw e (omega (arith, on k (m - k)))
+
+  -- a font that is counted has its ID and its length before the table ends
+  pub font-room : (k m n p : ℕ) → k < m → p ≡ font_at s b k → font_at s b m ≤ n → p + 3 ≤ n
+  font-room k m n p h e l = omega (arith, fonts-up k m h)
 
   -- a table begins before it ends
   pub fonts-from : (m : ℕ) → b + 2 ≤ font_at s b m

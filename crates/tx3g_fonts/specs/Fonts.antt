@@ -1,7 +1,7 @@
 -- The fonts of a sample entry. Document 01, '3GPP text': `ftab` is a count (2, at most 256) and entries of ID (2), name length (1), name; IDs distinct.
 use Rattle.std.specs.Prelude.{ℕ, zero, suc, ◌+◌, ◌%◌, ◌<◌, ◌≡◌, List, Bool, true, false, length, get_or, set, ltb, eqb}
 use Rattle.base.specs.Choice.{any_of}
-use Rattle.verdict.specs.declared.Verdict.{Verdict}
+use Rattle.verdict.specs.Verdict.{Verdict}
 use Rattle.verdict.specs.Judgement.{◌gives◌at◌, ◌then◌, each}
 use Rattle.fields.specs.BigEndian.{be}
 use Rattle.bodies.specs.Bodies.{filled}

@@ -9,7 +9,7 @@ ghost use Rattle.tx3g_fonts.specs.Fonts.{after_font, font_at, font_among, has_fo
 
 use bodies::judge_end;
 use fields::{get8, get16};
-use verdict::{Verdict, refused};
+use verdict::{Reason, Verdict};
 
 // The place after the font that stands at `at`.
 fn pass_font(s: &[u8], at: usize) -> usize
@@ -25,13 +25,11 @@ fn is_among(s: &[u8], body: usize, count: u32, id: u32) -> bool
     ensures { result ≡ font_among s.now body count id }
 {
     let mut at = body + 2;
-    let mut k = 0;
-    while k < count {
+    for _k in 0..count {
         if get16(s, at) == id {
             return true;
         }
         at = pass_font(s, at);
-        k += 1;
     }
     false
 }
@@ -52,12 +50,10 @@ pub fn enter_fonts(s: &[u8], body: usize, slots: &mut [u32])
 {
     let count = get16(s, body);
     let mut at = body + 2;
-    let mut k = 0;
-    while k < count {
+    for _k in 0..count {
         let id = get16(s, at);
         slots[(id % 256) as usize] = id;
         at = pass_font(s, at);
-        k += 1;
     }
 }
 
@@ -66,10 +62,7 @@ pub fn has_font_by_slots(s: &[u8], body: usize, slots: &[u32], id: u32) -> bool
     requires { (font_at s.now body (be 2 s.now body) ≤ length s.now) × Slotted s.now body slots.now × (id < 65536) }
     ensures { result ≡ has_font s.now body id }
 {
-    if slots[(id % 256) as usize] == id {
-        return true;
-    }
-    has_font(s, body, id)
+    slots[(id % 256) as usize] == id || has_font(s, body, id)
 }
 
 // Whether the fonts fill the body.
@@ -78,21 +71,19 @@ fn judge_walk(s: &[u8], place: usize, body: usize, next: usize) -> Verdict
     ensures { result ≡ filled place (font_at s.now body (be 2 s.now body)) next }
 {
     if next - body < 2 {
-        return refused(1, place);
+        return Reason::BytesMissing.refused(place);
     }
     let count = get16(s, body);
     let mut at = body + 2;
-    let mut k = 0;
-    while k < count {
+    for _k in 0..count {
         if next - at < 3 {
-            return refused(1, place);
+            return Reason::BytesMissing.refused(place);
         }
         let end = pass_font(s, at);
         if next < end {
-            return refused(1, place);
+            return Reason::BytesMissing.refused(place);
         }
         at = end;
-        k += 1;
     }
     judge_end(place, at, next)
 }
@@ -105,20 +96,16 @@ fn judge_ids(s: &[u8], place: usize, body: usize, count: u32) -> Verdict
     // The slots of the fonts before k, by the ID modulo 256: an ID whose slot is free has not stood earlier.
     let mut taken = [false; 256];
     let mut at = body + 2;
-    let mut k = 0;
-    while k < count {
+    for k in 0..count {
         let id = get16(s, at);
         let slot = (id % 256) as usize;
-        if taken[slot] {
-            if is_among(s, body, k, id) {
-                return refused(8, place);
-            }
+        if taken[slot] && is_among(s, body, k, id) {
+            return Reason::BadValue.refused(place);
         }
         taken[slot] = true;
         at = pass_font(s, at);
-        k += 1;
     }
-    Verdict::Fine
+    Ok(())
 }
 
 // The body of an `ftab` at `place`, from `body` to `next`.
@@ -126,13 +113,10 @@ pub fn judge_fonts(s: &[u8], place: usize, body: usize, next: usize) -> Verdict
     requires { (body ≤ next) × (next ≤ length s.now) }
     ensures { result ≡ judge_fonts s.now place body next }
 {
-    let v = judge_walk(s, place, body, next);
-    let Verdict::Fine = v else {
-        return v;
-    };
+    judge_walk(s, place, body, next)?;
     let count = get16(s, body);
     if 256 < count {
-        return refused(9, place);
+        return Reason::PastLimit.refused(place);
     }
     judge_ids(s, place, body, count)
 }

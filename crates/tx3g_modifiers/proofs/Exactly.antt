@@ -8,8 +8,7 @@ use native.Mathlib.Nat.{not-suc-le-zero}
 use lib.ListN.{length}
 use borrow.Author.Tests.{eq-eqb}
 use Rattle.base.specs.Choice.{pick, keep}
-use Rattle.verdict.specs.declared.Verdict.{Verdict}
-use Rattle.verdict.specs.declared.Verdict.TheVariants.{Fine, Refused}
+use Rattle.verdict.specs.Verdict.{Verdict, Fine, Refused}
 use Rattle.verdict.proofs.Judgement.{both-fine}
 use Rattle.boxes.specs.declared.Step.{Step}
 use Rattle.boxes.specs.declared.Step.TheVariants.{Box, Refused as Stopped, End as Ended}
@@ -20,11 +19,10 @@ use Rattle.tx3g_entry.specs.Entry.{nothing_more, fonts_of}
 use Rattle.tx3g_sample.specs.Sample.{text_end, in_sample, modifiers_of, fonts_in, judge_modifiers}
 use Rattle.tx3g_sample.proofs.Laws.{read-good, box-filled}
 use Rattle.tx3g_modifiers.specs.declared.Modifier.{Modifier}
-use Rattle.tx3g_modifiers.specs.declared.Held.TheVariants.{One, Refused as Broken, End}
+use Rattle.tx3g_modifiers.specs.Held.{One, Refused as Broken, End}
 use Rattle.tx3g_modifiers.specs.Modifiers.{handed, whole, modifier_of, next_modifier, modifiers_in, handed_in}
-use Rattle.tx3g_modifiers.specs.Terms.{ended}
 use Rattle.tx3g_modifiers.specs.Exactly.{NextMeans, Exactly, NeverBlinks}
-use Rattle.tx3g_modifiers.proofs.Laws.{handed-known, whole-kind, whole-other}
+use Rattle.tx3g_modifiers.proofs.Laws.{ended, handed-known, whole-kind, whole-other}
 
 -- no modifier is handed out: there is none
 none_left : (s : List ℕ) (bs : Boxes) (v : Verdict) → next_modifier s bs ≡ ended v → modifiers_in s bs ≡ []
@@ -40,7 +38,7 @@ none_left s (box p k b n rest) v h = go (whole s k b n) v h (λ q. none_left s r
     go false u q f = f q
 
 one_same : (m m' : Modifier) (n n' : ℕ) → One m n ≡ One m' n' → (m ≡ m') × (n ≡ n')
-one_same m m' n n' e = (cc, cc)
+one_same m m' n n' e = let z : (m, n) ≡ (m', n') = cc in (ap (λ (p : Modifier × ℕ). p.0) z, ap (λ (p : Modifier × ℕ). p.1) z)
 
 -- a modifier handed out from `at` on: the box that says it, and that it is the first, with the others from the place after it on
 record Found (s : List ℕ) (end at : ℕ) (m : Modifier) (n : ℕ) : Type 0 where

@@ -9,8 +9,7 @@ use lib.Dec.{eqb}
 use borrow.Author.Tests.{eq-eqb, ne_eqb, eqb-true, le-ltb}
 use Rattle.base.proofs.Choice.{both_left, both_right}
 use Rattle.verdict.specs.declared.Refusal.{Refusal}
-use Rattle.verdict.specs.declared.Verdict.{Verdict}
-use Rattle.verdict.specs.declared.Verdict.TheVariants.{Fine, Refused}
+use Rattle.verdict.specs.Verdict.{Verdict, Fine, Refused}
 use Rattle.boxes.specs.declared.Step.{Step}
 use Rattle.boxes.specs.declared.Step.TheVariants.{Box, Refused as Stopped, End as Ended}
 use Rattle.boxes.specs.Boxes.{step_at, stopped_by, on_step, boxes_in}
@@ -19,9 +18,8 @@ use Rattle.bodies.specs.Bodies.{filled}
 use Rattle.bodies.proofs.Filled.{filled-fine}
 use Rattle.tx3g_contents.specs.Kinds.{blnk, known}
 use Rattle.tx3g_contents.specs.Contents.{content_end}
-use Rattle.tx3g_modifiers.specs.declared.Held.TheVariants.{One}
+use Rattle.tx3g_modifiers.specs.Held.{Held, One, Refused as Broken, End}
 use Rattle.tx3g_modifiers.specs.Modifiers.{handed, whole, modifier_of, next_modifier}
-use Rattle.tx3g_modifiers.specs.Terms.{ended}
 
 -- the kinds that are handed out: known, and not `blnk`
 pub handed-known : (k : ℕ) → handed k ≡ true → (known k ≡ true) × (k ≢ blnk)
@@ -72,6 +70,11 @@ whole-kind s k b n h = both_left (handed k) (eqb (content_end s k b) n) h
 pub whole-end : (s : List ℕ) (k b n : ℕ) → whole s k b n ≡ true → content_end s k b ≡ n
 unfolding whole
 whole-end s k b n h = eqb-true (content_end s k b) n (both_right (handed k) (eqb (content_end s k b) n) h)
+
+-- where no box stands: a refused header, or the end
+abbrev pub ended : Verdict → Held
+ended Fine = End
+ended (Refused r) = Broken r
 
 -- the loop: no further box, a box that is handed out, one that is passed over
 pub next-stop : (s : List ℕ) (at end : ℕ) (t : Step) → step_at s at end ≡ t → NoBox t → next_modifier s (boxes_in s at end) ≡ ended (stopped_by t)

@@ -3,11 +3,10 @@ use Rattle.std.specs.Prelude.{ℕ, ◌+◌, ◌≡◌, ◌≢◌, List, [], ◌�
 use Rattle.fields.specs.BigEndian.{be}
 use Rattle.boxes.specs.Boxes.{boxes_in, place_of}
 use Rattle.tx3g_contents.specs.Kinds.{blnk}
-use Rattle.tx3g_sample.specs.declared.Reading.TheVariants.{Good}
+use Rattle.tx3g_sample.specs.Reading.{Good}
 use Rattle.tx3g_sample.specs.Sample.{text_end, read_sample}
 use Rattle.tx3g_modifiers.specs.declared.Modifier.{Modifier}
-use Rattle.tx3g_modifiers.specs.declared.Held.{Held}
-use Rattle.tx3g_modifiers.specs.declared.Held.TheVariants.{One, Refused, End}
+use Rattle.tx3g_modifiers.specs.Held.{Held, One, Refused, End}
 use Rattle.tx3g_modifiers.specs.Modifiers.{modifier_of, next_modifier, modifiers_in, handed_in}
 
 -- what an answer of `next_modifier` at a place means: the first modifier from there on, and then those from the place after it on; or none

@@ -1,3 +1,3 @@
+pub mod Held
 pub mod Modifiers
 pub mod Exactly
-pub mod Terms

@@ -7,8 +7,7 @@ use Rattle.tx3g_contents.specs.Kinds.{styl, hlit, hclr, krok, href, tbox, blnk, 
 use Rattle.tx3g_contents.specs.Contents.{alternative_at, link_end, content_end}
 use Rattle.tx3g_modifiers.specs.declared.Modifier.{Modifier}
 use Rattle.tx3g_modifiers.specs.declared.Modifier.TheVariants.{Styles, Highlight, Colour, Karaoke, Delay, Link, TextBox, Wrap}
-use Rattle.tx3g_modifiers.specs.declared.Held.{Held}
-use Rattle.tx3g_modifiers.specs.declared.Held.TheVariants.{One, Refused as Stopped, End}
+use Rattle.tx3g_modifiers.specs.Held.{Held, One, Refused as Stopped, End}
 
 -- the kinds that are handed out: `blnk` is retired
 unfoldable pub handed : ℕ → Bool

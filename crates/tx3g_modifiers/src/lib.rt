@@ -2,22 +2,14 @@
 #![tactic(auto)]
 
 ghost use Rattle.std.specs.Prelude.{◌≡◌, ◌+◌, ◌≤◌, length};
-ghost use Rattle.boxes.specs.Boxes.{boxes_in, stopped_by};
+ghost use Rattle.boxes.specs.Boxes.{boxes_in};
 ghost use Rattle.tx3g_contents.specs.Contents.{link_end, content_end};
 ghost use Rattle.tx3g_modifiers.specs.Modifiers.{handed, whole, link_of, plain_of, modifier_of, next_modifier};
-ghost use Rattle.tx3g_modifiers.specs.Terms.{ended};
 
-use boxes::{Step, step_at, stopped_by};
+use boxes::{Part, Step, step_at, stopped_by};
 use fields::{get8, get16, get32};
 use tx3g_contents::{BLNK, HCLR, HLIT, HREF, KROK, STYL, TBOX, TWRP, is_known, judge_content};
-use verdict::{Refusal, Verdict};
-
-// Where bytes stand in a sample: from `from` to before `end`.
-#[derive(Clone, Copy)]
-pub struct Part {
-    pub from: usize,
-    pub end: usize,
-}
+use verdict::Refusal;
 
 // What a modifier box says: its numbers, and where its records and texts stand.
 #[derive(Clone, Copy)]
@@ -61,22 +53,11 @@ pub enum Modifier {
     },
 }
 
-// The next modifier with the place after it, the refusal of a header, or none.
-#[derive(Clone, Copy)]
-pub enum Held {
-    One { modifier: Modifier, next: usize },
-    Refused(Refusal),
-    End,
-}
-
 // The kinds that are handed out.
 fn is_handed(kind: u32) -> bool
     ensures { result ≡ handed kind }
 {
-    if kind == BLNK {
-        return false;
-    }
-    is_known(kind)
+    kind != BLNK && is_known(kind)
 }
 
 // Whether this is a box that is handed out, and that its content fills.
@@ -84,14 +65,7 @@ fn is_whole(s: &[u8], place: usize, kind: u32, body: usize, next: usize) -> bool
     requires { (body ≤ next) × (next ≤ length s.now) }
     ensures { result ≡ whole s.now kind body next }
 {
-    if is_handed(kind) {
-        let v = judge_content(s, place, kind, body, next);
-        let Verdict::Fine = v else {
-            return false;
-        };
-        return true;
-    }
-    false
+    is_handed(kind) && matches!(judge_content(s, place, kind, body, next), Ok(()))
 }
 
 fn read_link(s: &[u8], body: usize) -> Modifier
@@ -122,22 +96,20 @@ fn read_plain(s: &[u8], kind: u32, body: usize) -> Modifier
     requires { body + 4 ≤ length s.now }
     ensures { result ≡ plain_of s.now kind body }
 {
-    if kind == HLIT {
-        return Modifier::Highlight {
+    match kind {
+        HLIT => Modifier::Highlight {
             start: get16(s, body),
             end: get16(s, body + 2),
-        };
-    }
-    if kind == HCLR {
-        return Modifier::Colour {
+        },
+        HCLR => Modifier::Colour {
             red: get8(s, body),
             green: get8(s, body + 1),
             blue: get8(s, body + 2),
             alpha: get8(s, body + 3),
-        };
-    }
-    Modifier::Delay {
-        time: get32(s, body),
+        },
+        _ => Modifier::Delay {
+            time: get32(s, body),
+        },
     }
 }
 
@@ -146,45 +118,27 @@ fn read_modifier(s: &[u8], kind: u32, body: usize) -> Modifier
     requires { content_end s.now kind body ≤ length s.now }
     ensures { result ≡ modifier_of s.now kind body }
 {
-    if kind == STYL {
-        return Modifier::Styles {
+    match kind {
+        STYL => Modifier::Styles {
             count: get16(s, body),
             from: body + 2,
-        };
-    }
-    if kind == KROK {
-        return Modifier::Karaoke {
+        },
+        KROK => Modifier::Karaoke {
             time: get32(s, body),
             count: get16(s, body + 4),
             from: body + 6,
-        };
-    }
-    if kind == HREF {
-        return read_link(s, body);
-    }
-    if kind == TBOX {
-        return Modifier::TextBox { from: body };
-    }
-    if kind == TWRP {
-        return Modifier::Wrap {
+        },
+        HREF => read_link(s, body),
+        TBOX => Modifier::TextBox { from: body },
+        TWRP => Modifier::Wrap {
             flag: get8(s, body),
-        };
-    }
-    read_plain(s, kind, body)
-}
-
-// The answer where a step gives no box.
-fn held_end(t: Step) -> Held
-    ensures { result ≡ ended (stopped_by t) }
-{
-    match stopped_by(t) {
-        Verdict::Fine => Held::End,
-        Verdict::Refused(why) => Held::Refused(why),
+        },
+        _ => read_plain(s, kind, body),
     }
 }
 
 // The first modifier of a sample from a place on where a box begins.
-pub fn next_modifier(s: &[u8], from: usize) -> Held
+pub fn next_modifier(s: &[u8], from: usize) -> Result<Option<(Modifier, usize)>, Refusal>
     ensures { result ≡ next_modifier s.now (boxes_in s.now from (length s.now)) }
 {
     let end = s.len();
@@ -192,11 +146,12 @@ pub fn next_modifier(s: &[u8], from: usize) -> Held
     loop {
         let t = step_at(s, at, end);
         let Step::Box { kind, body, next } = t else {
-            return held_end(t);
+            stopped_by(t)?;
+            return Ok(None);
         };
         if is_whole(s, at, kind, body, next) {
             let modifier = read_modifier(s, kind, body);
-            return Held::One { modifier, next };
+            return Ok(Some((modifier, next)));
         }
         at = next;
     }

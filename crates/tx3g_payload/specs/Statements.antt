@@ -5,7 +5,7 @@ use Rattle.base.specs.Choice.{pick, any_of}
 use Rattle.utf8.specs.Strings.{starts_with}
 use Rattle.text.specs.Rules.{payload_text}
 use Rattle.characters.specs.Characters.{mark, characters_of}
-use Rattle.characters.specs.declared.Counted.TheVariants.{Characters}
+use Rattle.characters.specs.Counted.{Characters}
 use Rattle.viable.specs.FirstBad.{bytes}
 use Rattle.timeline.specs.Cues.{same_id as same_mark}
 use Rattle.code_points.specs.CodePoints.{scalars, encode, encode16, joined, encodings}

@@ -7,11 +7,13 @@ use mathlib.Core.List.{List, [], ◌∷◌, ◌++◌, append-nil}
 use native.Mathlib.Omega.{arith}
 use native.Mathlib.Nat.{add-zero}
 use lib.Bits.{bit_or}
-use lib.Dec.{eqb, leb}
+use lib.Dec.{eqb, leb, ltb}
 use lib.ListN.{length, take, drop, get_or, length-drop, length-append, take-append-drop}
 use lib.Seq.{drop-drop, get_or-drop, drop_at, length-take-le}
 use borrow.Author.Tests.{leb-true, eqb-false, not-true, eq-eqb, lt-ltb, ne_eqb}
 use Rattle.base.specs.Choice.{both, within}
+use mir.Val.{bool_byte}
+use Rattle.std.proofs.lemmas.Bool.Decides.{nat_tests}
 use Rattle.base.specs.Over.{wrote}
 use Rattle.base.specs.Iter.{iter}
 use Rattle.base.proofs.Choice.{both_left, both_right, either}
@@ -24,8 +26,7 @@ use Rattle.code_points.specs.CodePoints.{scalar, scalars, encode, joined}
 use Rattle.tx3g_payload.specs.Points.{point, points8}
 use Rattle.tx3g_payload.specs.Left.{is_break, left_of}
 use Rattle.tx3g_payload.specs.Payload.{escape}
-use Rattle.tx3g_payload_write.specs.declared.Left.{Left}
-use Rattle.tx3g_payload_write.specs.declared.Left.TheVariants.{Gone, Stays}
+use Rattle.tx3g_payload_write.specs.Left.{Left, Gone, Stays}
 use Rattle.tx3g_payload_write.specs.declared.Walk.{Walk}
 use Rattle.tx3g_payload_write.specs.Terms.{points_by, Spelled, CharacterAt, lefts_of, after_of, left_items, given, opens, added_by, shown_by, plain, PlainAhead, added_all, shown_all, Stepped}
 use Rattle.tx3g_payload_write.proofs.Breaks.{stays}
@@ -201,6 +202,20 @@ module _ (s : List ℕ) (u : Bool) (face : ℕ) (w : Walk) (old new : List ℕ) 
       }
 
 -- ---- the test of a byte
+
+-- one test as a byte
+pub byte-is : (t : Bool) → eqb (bool_byte t) 0 ≡ not t
+byte-is true = refl
+byte-is false = refl
+
+-- a byte below a space, and one that is not
+pub outer-low : (b : ℕ) (t : Bool) → t ≡ ltb b 0x20 → b < 0x20 → not t ≡ within 0x20 0x7F b
+unfolding within
+outer-low b t e h = rw e (grind (arith, nat_tests))
+
+pub outer-high : (b : ℕ) (t : Bool) → t ≡ ltb 0x7F b → 0x20 ≤ b → not t ≡ within 0x20 0x7F b
+unfolding within
+outer-high b t e h = rw e (grind (arith, nat_tests))
 
 -- the four tests, joined
 pub mark-is : (b x y z w : ℕ) → eqb x 0 ≡ within 0x20 0x7F b → eqb y 0 ≡ not (eqb b 0x26) → eqb z 0 ≡ not (eqb b 0x3C) → eqb w 0 ≡ not (eqb b 0x3E)

@@ -1,20 +1,19 @@
 -- Bytes that are written, one part behind the other.
-use Prim.Native.Nat.{ℕ, suc, ◌+◌, ◌≤◌}
+use Prim.Native.Nat.{ℕ, ◌+◌, ◌-◌, ◌≤◌}
 use mathlib.Core.Path.{◌≡◌, refl, sym, subst}
 use mathlib.Core.Bool.{Bool, true, false, not}
 use mathlib.Core.List.{List, [], ◌∷◌, ◌++◌}
 use native.Mathlib.Omega.{arith}
 use native.Mathlib.Nat.{add-zero}
-use lib.ListN.{length, take, drop, get_or, length-append}
-use lib.Seq.{drop-cons}
-use native.Mathlib.Numerals.{towards_suc}
+use lib.ListN.{length, length-append}
+use lib.Seq.{take_all}
+use Rattle.boxes.specs.Boxes.{part}
 use borrow.Author.Tests.{ne_eqb}
 use Rattle.base.specs.Over.{wrote}
 use Rattle.base.proofs.Over.{wrote-nil, in_two}
 use Rattle.code_points.specs.CodePoints.{encode}
 use Rattle.tx3g_payload.specs.Payload.{escape}
-use Rattle.tx3g_payload_write.specs.declared.Left.{Left}
-use Rattle.tx3g_payload_write.specs.declared.Left.TheVariants.{Gone, Stays}
+use Rattle.tx3g_payload_write.specs.Left.{Left, Gone, Stays}
 use Rattle.tx3g_payload_write.specs.Terms.{CodeMost, given, opens, added_by, shown_by}
 
 -- w, written from `at` to before r, k bytes at most
@@ -35,6 +34,11 @@ wrote-both at p r j k old mid new a b l g h =
 
 pub wrote-most : (at r j k : ℕ) (old new w : List ℕ) → j ≤ k → Wrote at r j old new w → Wrote at r k old new w
 wrote-most at r j k old new w l h = (h.0, omega (arith, l, h.1), h.2)
+
+-- all bytes, as a part
+pub whole-part : (s : List ℕ) → part s 0 (0 + length s) ≡ s
+unfolding part
+whole-part s = take_all (0 + length s - 0) s (omega arith)
 
 -- an escape, by its character
 pub escape-amp : (c : ℕ) → c ≡ 0x26 → escape c ≡ 0x26 ∷ 0x61 ∷ 0x6D ∷ 0x70 ∷ 0x3B ∷ []
@@ -60,13 +64,6 @@ given_yes b s e = rw e
 pub given-no : (b : Bool) (s : List ℕ) → b ≡ false → given b s ≡ []
 given-no b s e = rw e
 
--- a character with the tags before it, unless they are there
-pub shown-yes : (shown : Bool) (t s : List ℕ) → shown ≡ true → given (not shown) t ++ s ≡ s
-shown-yes shown t s e = rw e
-
-pub shown-no : (shown : Bool) (t s : List ℕ) → shown ≡ false → given (not shown) t ++ s ≡ t ++ s
-shown-no shown t s e = rw e
-
 -- what is written of a character that is gone, and of one that stays
 pub put-gone : (at : ℕ) (shown : Bool) (face : ℕ) (l : Left) (old : List ℕ) → l ≡ Gone
     → (at ≡ at + length (added_by shown face l)) × (at ≤ at + 14) × (shown ≡ shown_by shown l) × (old ≡ wrote old at (added_by shown face l))
@@ -84,19 +81,3 @@ begin-yes shown t e = rw e
 
 pub begin-no : (shown : Bool) (t : List ℕ) → shown ≡ false → given (not shown) t ≡ t
 begin-no shown t e = rw e
-
--- eight bytes of a list
-pub eight-of : (s : List ℕ) (from : ℕ) → from + 8 ≤ length s
-    → take 8 (drop from s) ≡ get_or s from 0 ∷ get_or s (from + 1) 0 ∷ get_or s (from + 2) 0 ∷ get_or s (from + 3) 0 ∷ get_or s (from + 4) 0 ∷ get_or s (from + 5) 0 ∷ get_or s (from + 6) 0 ∷ get_or s (from + 7) 0 ∷ []
-eight-of s from h =
-    rw (
-      drop-cons s from 0 (omega arith),
-      drop-cons s (suc from) 0 (omega arith),
-      drop-cons s (suc (suc from)) 0 (omega arith),
-      drop-cons s (suc (suc (suc from))) 0 (omega arith),
-      drop-cons s (suc (suc (suc (suc from)))) 0 (omega arith),
-      drop-cons s (suc (suc (suc (suc (suc from))))) 0 (omega arith),
-      drop-cons s (suc (suc (suc (suc (suc (suc from)))))) 0 (omega arith),
-      drop-cons s (suc (suc (suc (suc (suc (suc (suc from))))))) 0 (omega arith),
-    )
-    (simp towards_suc)

@@ -13,20 +13,18 @@ use Rattle.base.proofs.Choice.{by-test, true-false}
 use Rattle.base.proofs.Tests.{both-no}
 use Rattle.viable.specs.FirstBad.{bytes}
 use Rattle.utf8.specs.Strings.{starts_with}
-use Rattle.characters.specs.declared.Counted.{Counted}
-use Rattle.characters.specs.declared.Counted.TheVariants.{Characters, Bad}
-use Rattle.viable.specs.declared.Judged.{Judged}
-use Rattle.viable.specs.declared.Judged.TheVariants.{Right, Bad as BadAt}
+use Rattle.characters.specs.Counted.{Counted, Characters, Bad}
+use Rattle.viable.specs.Judged.{Judged, Right, Bad as BadAt}
 use Rattle.viable.specs.FirstBad.{judged_by}
 use Rattle.characters.specs.Characters.{firsts, mark, tx3g_text, tx3g_begun, character_count, count_by, characters_of}
 use Rattle.code_points.specs.CodePoints.{scalars, encode, encode16, joined}
 use Rattle.code_points.proofs.CodePoints16.{counted_is}
-use Rattle.verdict.specs.declared.Verdict.TheVariants.{Fine}
+use Rattle.verdict.specs.Verdict.{Fine}
 use Rattle.verdict.specs.Judgement.{◌gives◌at◌}
 use Rattle.verdict.proofs.Judgement.{both-fine}
 use Rattle.boxes.specs.Boxes.{part}
 use Rattle.tx3g_entry.specs.Entry.{judge_entry}
-use Rattle.tx3g_sample.specs.declared.Reading.TheVariants.{Good}
+use Rattle.tx3g_sample.specs.Reading.{Good}
 use Rattle.tx3g_sample.specs.Sample.{text_end, counted, counted_at, count_of, characters_in, judge_text, judge_modifiers, judge_sample, read_sample}
 use Rattle.tx3g_sample.proofs.Laws.{count_past}
 use Rattle.tx3g_read.specs.declared.Text.{Text}

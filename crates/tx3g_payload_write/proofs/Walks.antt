@@ -13,17 +13,16 @@ use Rattle.base.proofs.Choice.{by-test, both_left, true-false}
 use Rattle.base.proofs.First.{first-none, first_some}
 use Rattle.base.proofs.Tests.{both-no}
 use Rattle.fields.specs.BigEndian.{be}
-use Rattle.bodies.specs.declared.Body.{Body}
-use Rattle.bodies.specs.declared.Body.TheVariants.{At, Refused as Stopped, Nowhere}
+use Rattle.bodies.specs.Body.{Body, At, Refused as Stopped, Nowhere}
 use Rattle.timeline.specs.Cues.{same_id as same_mark}
 use Rattle.timeline.proofs.Running.{same_id_lem}
 use Rattle.tx3g_contents.specs.Kinds.{styl}
 use Rattle.tx3g_rules.specs.Rules.{style_at}
-use Rattle.tx3g_sample.specs.declared.Reading.TheVariants.{Good}
+use Rattle.tx3g_sample.specs.Reading.{Good}
 use Rattle.tx3g_sample.specs.Sample.{read_sample}
 use Rattle.tx3g_sample.proofs.Laws.{read-good, boxes-whole}
 use Rattle.tx3g_style.specs.declared.Style.{Style}
-use Rattle.tx3g_style.specs.declared.Styled.TheVariants.{Found}
+use Rattle.tx3g_style.specs.Styled.{Found}
 use Rattle.tx3g_style.specs.Style.{holds_at, holds, style_in, style_or, default_style, styles_of, style_of}
 use Rattle.tx3g_style.proofs.Only.{only_one}
 use Rattle.tx3g_read.specs.declared.Styles.{Styles}

@@ -4,8 +4,7 @@ use Rattle.std.proofs.Math.Option.{Option, none}
 use Rattle.base.specs.First.{first}
 use Rattle.fields.specs.BigEndian.{be}
 use Rattle.boxes.specs.Boxes.{part}
-use Rattle.bodies.specs.declared.Body.{Body}
-use Rattle.bodies.specs.declared.Body.TheVariants.{At, Refused as Stopped, Nowhere}
+use Rattle.bodies.specs.Body.{Body, At, Refused as Stopped, Nowhere}
 use Rattle.tx3g_sample.specs.Sample.{text_end}
 use Rattle.tx3g_style.specs.Style.{holds, style_or, default_style, styles_of}
 use Rattle.tx3g_payload.specs.Points.{points_of}

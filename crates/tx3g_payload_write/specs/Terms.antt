@@ -3,8 +3,7 @@ use Rattle.std.specs.Prelude.{ℕ, zero, suc, ◌+◌, ◌≤◌, ◌<◌, ◌�
 use Rattle.std.proofs.Math.Option.{Option}
 use Rattle.base.specs.Choice.{both, within}
 use Rattle.base.specs.Over.{over, wrote}
-use Rattle.bodies.specs.declared.Body.{Body}
-use Rattle.bodies.specs.declared.Body.TheVariants.{At, Refused as Stopped, Nowhere}
+use Rattle.bodies.specs.Body.{Body, At, Refused as Stopped, Nowhere}
 use Rattle.timeline.specs.Cues.{same_id as same_mark}
 use Rattle.code_points.specs.CodePoints.{scalars, encode, encode16, joined}
 use Rattle.tx3g_payload.specs.Points.{points8, points16}
@@ -12,8 +11,7 @@ use Rattle.tx3g_payload.specs.Left.{is_break, left_of}
 use Rattle.tx3g_payload.specs.Payload.{escape, bold, italic, underline, opening, closing, flag, wrapped}
 use Rattle.tx3g_style.specs.Style.{styles_of}
 use Rattle.tx3g_runs.specs.Statements.{Stands}
-use Rattle.tx3g_payload_write.specs.declared.Left.{Left}
-use Rattle.tx3g_payload_write.specs.declared.Left.TheVariants.{Gone, Stays}
+use Rattle.tx3g_payload_write.specs.Left.{Left, Gone, Stays}
 use Rattle.tx3g_payload_write.specs.declared.Stretch.{Stretch}
 use Rattle.tx3g_payload_write.specs.declared.Walk.{Walk}
 use Rattle.tx3g_payload_write.specs.declared.Made.{Made}

@@ -6,9 +6,9 @@ ghost use Rattle.base.specs.Choice.{within};
 ghost use Rattle.base.specs.Over.{wrote};
 ghost use Rattle.ascii.specs.Ascii.{all};
 ghost use Rattle.code_points.specs.CodePoints.{encode};
-ghost use Rattle.verdict.specs.declared.Verdict.TheVariants.{Fine};
+ghost use Rattle.verdict.specs.Verdict.{Fine};
 ghost use Rattle.tx3g_entry.specs.Entry.{judge_entry};
-ghost use Rattle.tx3g_sample.specs.declared.Reading.TheVariants.{Good};
+ghost use Rattle.tx3g_sample.specs.Reading.{Good};
 ghost use Rattle.tx3g_sample.specs.Sample.{judge_sample, read_sample};
 ghost use Rattle.tx3g_style.specs.Style.{styles_of};
 ghost use Rattle.tx3g_payload.specs.Left.{is_break, only_breaks, left_of};
@@ -16,7 +16,7 @@ ghost use Rattle.tx3g_payload.specs.Payload.{escape, flag};
 ghost use Rattle.tx3g_payload_write.specs.Sample.{payload_in};
 ghost use Rattle.tx3g_payload_write.specs.Terms.{points_by, Spelled, CharacterAt, left_items, CodeMost, given, opens, closes, added_by, shown_by, plain, PlainAhead, Stepped, WalkAt, StretchIs, StretchMade, MadeIs};
 
-use characters::{Counted, count_characters, count_firsts};
+use characters::{count_characters, count_firsts};
 use fields::get8;
 use tx3g_read::{find_styles, find_text};
 use tx3g_runs::{Run, next_run};
@@ -27,13 +27,6 @@ use wvtt_write::copy_run;
 pub struct Character {
     pub code: u32,
     pub next: usize,
-}
-
-// What is left of a character.
-#[derive(Clone, Copy)]
-enum Left {
-    Gone,
-    Stays(u32),
 }
 
 // A stretch: where it ends and its face flags; then how many styles are left behind it, and where the first of them stands.
@@ -117,13 +110,7 @@ fn utf16_at(text: &[u8], at: usize) -> Character
 {
     let h = byte_at(text, at);
     let l = byte_at(text, at + 1);
-    if h < 0xD8 {
-        return Character {
-            code: h * 256 + l,
-            next: at + 2,
-        };
-    }
-    if 0xDB < h {
+    if h < 0xD8 || 0xDB < h {
         return Character {
             code: h * 256 + l,
             next: at + 2,
@@ -143,19 +130,17 @@ fn character_at(text: &[u8], utf16: bool, at: usize) -> Character
     ensures { CharacterAt utf16 text.now at result.code result.next }
 {
     if utf16 {
-        return utf16_at(text, at);
+        utf16_at(text, at)
+    } else {
+        utf8_at(text, at)
     }
-    utf8_at(text, at)
 }
 
 // Whether a character is CR or LF.
 fn is_break(c: u32) -> bool
     ensures { result ≡ is_break c }
 {
-    if c == 0x0D {
-        return true;
-    }
-    c == 0x0A
+    matches!(c, 0x0D | 0x0A)
 }
 
 // Whether there is nothing but CR and LF from `from` on.
@@ -175,20 +160,17 @@ fn only_breaks(text: &[u8], utf16: bool, from: usize) -> bool
 }
 
 // What is left of character c, which ends at `next`.
-fn left_of(text: &[u8], utf16: bool, after: bool, c: u32, next: usize) -> Left
+fn left_of(text: &[u8], utf16: bool, after: bool, c: u32, next: usize) -> Option<u32>
     requires { (next ≤ length text.now) × Spelled utf16 (drop next text.now) × (c ≤ 0x10FFFF) }
     ensures { (left_items result ≡ left_of after c (points_by utf16 (drop next text.now))) × CodeMost result }
 {
     if !is_break(c) {
-        return Left::Stays(c);
+        Some(c)
+    } else if after || only_breaks(text, utf16, next) {
+        None
+    } else {
+        Some(0x0A)
     }
-    if after {
-        return Left::Gone;
-    }
-    if only_breaks(text, utf16, next) {
-        return Left::Gone;
-    }
-    Left::Stays(0x0A)
 }
 
 // A character in UTF-8.
@@ -218,16 +200,13 @@ fn put_character(out: &mut [u8], at: usize, c: u32) -> usize
     at + 4
 }
 
-// `&lt;` or `&gt;`.
-fn put_angle(out: &mut [u8], at: usize, letter: u8) -> usize
-    requires { at + 4 ≤ length out.old }
-    ensures { (result ≡ at + 4) × (out.new ≡ wrote out.old at (0x26 ∷ letter ∷ 0x74 ∷ 0x3B ∷ [])) }
+// These bytes.
+fn put_bytes(out: &mut [u8], at: usize, bytes: &[u8]) -> usize
+    requires { at + length bytes.now ≤ length out.old }
+    ensures { (result ≡ at + length bytes.now) × (out.new ≡ wrote out.old at bytes.now) }
 {
-    out[at] = b'&';
-    out[at + 1] = letter;
-    out[at + 2] = b't';
-    out[at + 3] = b';';
-    at + 4
+    copy_run(&mut *out, at, bytes, 0, bytes.len());
+    at + bytes.len()
 }
 
 // A character, escaped.
@@ -235,21 +214,12 @@ pub fn put_escaped(out: &mut [u8], at: usize, c: u32) -> usize
     requires { (at + 5 ≤ length out.old) × (c ≤ 0x10FFFF) }
     ensures { (result ≡ at + length (escape c)) × (result ≤ at + 5) × (out.new ≡ wrote out.old at (escape c)) }
 {
-    if c == 0x26 {
-        out[at] = b'&';
-        out[at + 1] = b'a';
-        out[at + 2] = b'm';
-        out[at + 3] = b'p';
-        out[at + 4] = b';';
-        return at + 5;
+    match c {
+        0x26 => put_bytes(&mut *out, at, b"&amp;"),
+        0x3C => put_bytes(&mut *out, at, b"&lt;"),
+        0x3E => put_bytes(&mut *out, at, b"&gt;"),
+        _ => put_character(&mut *out, at, c),
     }
-    if c == 0x3C {
-        return put_angle(&mut *out, at, b'l');
-    }
-    if c == 0x3E {
-        return put_angle(&mut *out, at, b'g');
-    }
-    put_character(&mut *out, at, c)
 }
 
 // Face flag d, of 1, 2, 4.
@@ -261,32 +231,15 @@ fn has_flag(d: u32, face: u32) -> bool
 }
 
 // A tag, if it is wanted.
-fn put_tag(out: &mut [u8], at: usize, wanted: bool, letter: u8) -> usize
-    requires { at + 3 ≤ length out.old }
-    ensures { (result ≡ at + length (given wanted (0x3C ∷ letter ∷ 0x3E ∷ []))) × (result ≤ at + 3) × (out.new ≡ wrote out.old at (given wanted (0x3C ∷ letter ∷ 0x3E ∷ []))) }
+fn put_tag(out: &mut [u8], at: usize, wanted: bool, tag: &[u8]) -> usize
+    requires { at + length tag.now ≤ length out.old }
+    ensures { (result ≡ at + length (given wanted tag.now)) × (result ≤ at + length tag.now) × (out.new ≡ wrote out.old at (given wanted tag.now)) }
 {
-    if !wanted {
-        return at;
+    if wanted {
+        put_bytes(&mut *out, at, tag)
+    } else {
+        at
     }
-    out[at] = b'<';
-    out[at + 1] = letter;
-    out[at + 2] = b'>';
-    at + 3
-}
-
-// An end tag, if it is wanted.
-fn put_end_tag(out: &mut [u8], at: usize, wanted: bool, letter: u8) -> usize
-    requires { at + 4 ≤ length out.old }
-    ensures { (result ≡ at + length (given wanted (0x3C ∷ 0x2F ∷ letter ∷ 0x3E ∷ []))) × (result ≤ at + 4) × (out.new ≡ wrote out.old at (given wanted (0x3C ∷ 0x2F ∷ letter ∷ 0x3E ∷ []))) }
-{
-    if !wanted {
-        return at;
-    }
-    out[at] = b'<';
-    out[at + 1] = b'/';
-    out[at + 2] = letter;
-    out[at + 3] = b'>';
-    at + 4
 }
 
 // The tags of a face.
@@ -294,9 +247,9 @@ pub fn put_opens(out: &mut [u8], at: usize, face: u32) -> usize
     requires { at + 9 ≤ length out.old }
     ensures { (result ≡ at + length (opens face)) × (result ≤ at + 9) × (out.new ≡ wrote out.old at (opens face)) }
 {
-    let second = put_tag(&mut *out, at, has_flag(1, face), b'b');
-    let third = put_tag(&mut *out, second, has_flag(2, face), b'i');
-    put_tag(&mut *out, third, has_flag(4, face), b'u')
+    let second = put_tag(&mut *out, at, has_flag(1, face), b"<b>");
+    let third = put_tag(&mut *out, second, has_flag(2, face), b"<i>");
+    put_tag(&mut *out, third, has_flag(4, face), b"<u>")
 }
 
 // Its end tags.
@@ -304,9 +257,21 @@ pub fn put_closes(out: &mut [u8], at: usize, face: u32) -> usize
     requires { at + 12 ≤ length out.old }
     ensures { (result ≡ at + length (closes face)) × (result ≤ at + 12) × (out.new ≡ wrote out.old at (closes face)) }
 {
-    let second = put_end_tag(&mut *out, at, has_flag(4, face), b'u');
-    let third = put_end_tag(&mut *out, second, has_flag(2, face), b'i');
-    put_end_tag(&mut *out, third, has_flag(1, face), b'b')
+    let second = put_tag(&mut *out, at, has_flag(4, face), b"</u>");
+    let third = put_tag(&mut *out, second, has_flag(2, face), b"</i>");
+    put_tag(&mut *out, third, has_flag(1, face), b"</b>")
+}
+
+// The tags of a face, if they are not yet there.
+fn put_begin(out: &mut [u8], at: usize, shown: bool, face: u32) -> usize
+    requires { at + 9 ≤ length out.old }
+    ensures { (result ≡ at + length (given (not shown) (opens face))) × (result ≤ at + 9) × (out.new ≡ wrote out.old at (given (not shown) (opens face))) }
+{
+    if shown {
+        at
+    } else {
+        put_opens(&mut *out, at, face)
+    }
 }
 
 // A character that is left, behind the tags of its face if they are not yet there.
@@ -314,21 +279,18 @@ fn put_left(out: &mut [u8], at: usize, shown: bool, face: u32, c: u32) -> usize
     requires { (at + 14 ≤ length out.old) × (c ≤ 0x10FFFF) }
     ensures { (result ≡ at + length (given (not shown) (opens face) ++ escape c)) × (result ≤ at + 14) × (out.new ≡ wrote out.old at (given (not shown) (opens face) ++ escape c)) }
 {
-    if shown {
-        return put_escaped(&mut *out, at, c);
-    }
-    let second = put_opens(&mut *out, at, face);
+    let second = put_begin(&mut *out, at, shown, face);
     put_escaped(&mut *out, second, c)
 }
 
 // What is left of a character.
-fn put_next(out: &mut [u8], at: usize, shown: bool, face: u32, l: Left) -> Put
+fn put_next(out: &mut [u8], at: usize, shown: bool, face: u32, l: Option<u32>) -> Put
     requires { (at + 14 ≤ length out.old) × CodeMost l }
     ensures { (result.bytes ≡ at + length (added_by shown face l)) × (result.bytes ≤ at + 14) × (result.shown ≡ shown_by shown l) × (out.new ≡ wrote out.old at (added_by shown face l)) }
 {
     match l {
-        Left::Gone => Put { bytes: at, shown },
-        Left::Stays(c) => Put {
+        None => Put { bytes: at, shown },
+        Some(c) => Put {
             bytes: put_left(&mut *out, at, shown, face, c),
             shown: true,
         },
@@ -341,32 +303,24 @@ fn put_end(out: &mut [u8], at: usize, shown: bool, face: u32) -> usize
     ensures { (result ≡ at + length (given shown (closes face))) × (result ≤ at + 12) × (out.new ≡ wrote out.old at (given shown (closes face))) }
 {
     if shown {
-        return put_closes(&mut *out, at, face);
+        put_closes(&mut *out, at, face)
+    } else {
+        at
     }
-    at
 }
 
 // 1 for a byte below a space or past ASCII, else 0.
 fn outer_mark(b: u8) -> u8
     ensures { eqb result 0 ≡ within 0x20 0x7F b }
 {
-    if b < 0x20 {
-        return 1;
-    }
-    if 0x7F < b {
-        return 1;
-    }
-    0
+    u8::from(b < 0x20 || 0x7F < b)
 }
 
 // 1 for the byte c, else 0.
 fn mark_for(c: u8, b: u8) -> u8
     ensures { eqb result 0 ≡ not (eqb b c) }
 {
-    if b == c {
-        return 1;
-    }
-    0
+    u8::from(b == c)
 }
 
 // Not 0 for a byte that does not stand in a payload as it is. The tests are joined, so that the compiler takes wide steps.
@@ -382,10 +336,8 @@ fn is_plain8(text: &[u8], at: usize) -> bool
     ensures { result ≡ all plain text.now at 8 }
 {
     let mut x = 0;
-    let mut k = 0;
-    while k < 8 {
-        x = x | mark_of(text[at + k]);
-        k += 1;
+    for k in 0..8 {
+        x |= mark_of(text[at + k]);
     }
     x == 0
 }
@@ -395,33 +347,14 @@ fn plain_ahead(text: &[u8], utf16: bool, at: usize, left: usize) -> usize
     requires { (at < length text.now) × (0 < left) }
     ensures { PlainAhead text.now utf16 at left result }
 {
-    if utf16 {
+    if utf16 || mark_of(text[at]) != 0 {
         return 0;
     }
-    if mark_of(text[at]) != 0 {
-        return 0;
+    if 8 <= left && 8 <= text.len() - at && is_plain8(text, at) {
+        8
+    } else {
+        1
     }
-    if left < 8 {
-        return 1;
-    }
-    if text.len() - at < 8 {
-        return 1;
-    }
-    if is_plain8(text, at) {
-        return 8;
-    }
-    1
-}
-
-// The tags of a face, if they are not yet there.
-fn put_begin(out: &mut [u8], at: usize, shown: bool, face: u32) -> usize
-    requires { at + 9 ≤ length out.old }
-    ensures { (result ≡ at + length (given (not shown) (opens face))) × (result ≤ at + 9) × (out.new ≡ wrote out.old at (given (not shown) (opens face))) }
-{
-    if shown {
-        return at;
-    }
-    put_opens(&mut *out, at, face)
 }
 
 // The next n characters, eight or one, which stand in a payload as they are.
@@ -467,9 +400,10 @@ fn put_some(text: &[u8], utf16: bool, face: u32, w: Walk, out: &mut [u8]) -> Wal
 {
     let n = plain_ahead(text, utf16, w.at, w.left);
     if n == 0 {
-        return put_one(text, utf16, face, w, &mut *out);
+        put_one(text, utf16, face, w, &mut *out)
+    } else {
+        put_plain(text, face, n, w, &mut *out)
     }
-    put_plain(text, face, n, w, &mut *out)
 }
 
 // The characters of a stretch, from its first on, wrapped in the tags of its face.
@@ -603,7 +537,7 @@ pub fn make_payload(e: &[u8], s: &[u8], out: &mut [u8]) -> usize
         return put_stretches(e, s, count_firsts(&s[2..end]), &mut *out);
     }
     match count_characters(&s[2..end]) {
-        Counted::Characters(n) => put_stretches(e, s, n, &mut *out),
-        Counted::Bad(_) => 0,
+        Ok(n) => put_stretches(e, s, n, &mut *out),
+        Err(_) => 0,
     }
 }

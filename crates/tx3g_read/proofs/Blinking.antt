@@ -11,21 +11,18 @@ use lib.ListN.{length}
 use borrow.Author.Tests.{eq-eqb, eqb-true}
 use Rattle.base.specs.Choice.{pick, any_of}
 use Rattle.base.proofs.Tests.{one-of-comm}
-use Rattle.verdict.specs.declared.Verdict.{Verdict}
-use Rattle.verdict.specs.declared.Verdict.TheVariants.{Fine}
+use Rattle.verdict.specs.Verdict.{Verdict, Fine}
 use Rattle.verdict.proofs.Judgement.{both-fine}
 use Rattle.fields.specs.BigEndian.{be}
 use Rattle.boxes.specs.declared.Step.{Step}
 use Rattle.boxes.specs.declared.Step.TheVariants.{Box, Refused as Stopped, End}
 use Rattle.boxes.specs.Boxes.{step_at, Boxes, clean, broken, box, on_step, boxes_in, place_of, judged}
 use Rattle.boxes.proofs.Laws.{step-box, step-reads, step-goes, boxes-at, place_up}
-use Rattle.bodies.specs.declared.Body.{Body}
-use Rattle.bodies.specs.declared.Body.TheVariants.{At, Refused as NotRead, Nowhere}
+use Rattle.bodies.specs.Body.{Body, At, Refused as NotRead, Nowhere}
 use Rattle.bodies.specs.Bodies.{body_of}
 use Rattle.tx3g_contents.specs.Kinds.{blnk}
 use Rattle.tx3g_entry.specs.Entry.{nothing_more, fonts_of}
-use Rattle.tx3g_sample.specs.declared.Reading.{Reading}
-use Rattle.tx3g_sample.specs.declared.Reading.TheVariants.{Good, BadEntry as EntryRefused, BadSample as SampleRefused}
+use Rattle.tx3g_sample.specs.Reading.{Reading, Good, BadEntry as EntryRefused, BadSample as SampleRefused}
 use Rattle.tx3g_sample.specs.Sample.{text_end, in_sample, modifiers_of, fonts_in, judge_modifiers, read_sample}
 use Rattle.tx3g_sample.proofs.Laws.{read-good}
 use Rattle.tx3g_read.specs.Sample.{has_box, retired_blinking, content_by, content_of}

@@ -11,8 +11,7 @@ use Rattle.fields.specs.BigEndian.{be}
 use Rattle.tx3g_fonts.specs.Fonts.{after_font, font_at, font_id}
 use Rattle.tx3g_fonts.proofs.Laws.{fonts-up}
 use Rattle.tx3g_entry.proofs.Laws.{entry-fine}
-use Rattle.tx3g_read.specs.declared.Font.TheVariants.{Named}
-use Rattle.tx3g_read.specs.Entry.{fields_of, read_entry, font_in}
+use Rattle.tx3g_read.specs.Entry.{Named, fields_of, read_entry, font_in}
 use Rattle.tx3g_read.specs.Statements.{EntryReads}
 
 -- a font lies before the end of the last

@@ -9,15 +9,13 @@ use lib.Dec.{ltb}
 use lib.ListN.{length, take, drop, length-take, length-drop}
 use lib.Seq.{take-nil, drop-drop}
 use Rattle.base.specs.Choice.{pick}
-use Rattle.verdict.specs.declared.Verdict.TheVariants.{Fine}
+use Rattle.verdict.specs.Verdict.{Fine}
 use Rattle.verdict.specs.Judgement.{◌gives◌at◌}
 use Rattle.verdict.proofs.Judgement.{both-fine}
-use Rattle.viable.specs.declared.Judged.{Judged}
-use Rattle.viable.specs.declared.Judged.TheVariants.{Right, Bad as BadAt}
+use Rattle.viable.specs.Judged.{Judged, Right, Bad as BadAt}
 use Rattle.viable.specs.FirstBad.{judged_by}
 use Rattle.utf8.specs.Strings.{starts_with}
-use Rattle.characters.specs.declared.Counted.{Counted}
-use Rattle.characters.specs.declared.Counted.TheVariants.{Characters, Bad}
+use Rattle.characters.specs.Counted.{Counted, Characters, Bad}
 use Rattle.characters.specs.Characters.{utf16, first_units, mark, tx3g_text, tx3g_begun, character_count, count_by, characters_of}
 use Rattle.characters.proofs.Counts.{mark-length, counted-text, count-units, count-firsts}
 use Rattle.characters.proofs.Begun.{text-marked, text-other}

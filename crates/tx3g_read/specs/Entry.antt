@@ -1,22 +1,28 @@
 -- What a `tx3g` sample entry says. Document 01, '3GPP text'; crate tx3g_entry has its bytes.
-use Rattle.std.specs.Prelude.{ℕ, ◌+◌, List, ltb, length}
+use Rattle.std.specs.Prelude.{ℕ, ◌+◌, List, ltb, length, Option, Some, None, Result, Ok, Err}
 use Rattle.base.specs.Choice.{pick}
-use Rattle.verdict.specs.declared.Verdict.{Verdict}
-use Rattle.verdict.specs.declared.Verdict.TheVariants.{Fine, Refused as Faulty}
+use Rattle.verdict.specs.declared.Refusal.{Refusal}
+use Rattle.verdict.specs.Verdict.{Verdict, Fine, Refused as Faulty}
 use Rattle.verdict.specs.Judgement.{fault}
 use Rattle.fields.specs.BigEndian.{be}
 use Rattle.signed.specs.Signed.{signed8, signed16}
-use Rattle.bodies.specs.declared.Body.{Body}
-use Rattle.bodies.specs.declared.Body.TheVariants.{At, Refused as Stopped, Nowhere}
+use Rattle.bodies.specs.Body.{Body, At, Refused as Stopped, Nowhere}
 use Rattle.tx3g_fonts.specs.Fonts.{after_font}
 use Rattle.tx3g_entry.specs.Entry.{fonts_of, judge_entry}
 use Rattle.tx3g_style.specs.Style.{style_in}
 use Rattle.tx3g_read.specs.declared.Colour.{Colour}
 use Rattle.tx3g_read.specs.declared.Fields.{Fields}
-use Rattle.tx3g_read.specs.declared.Entry.{Entry}
-use Rattle.tx3g_read.specs.declared.Entry.TheVariants.{Whole, Refused}
 use Rattle.tx3g_read.specs.declared.Font.{Font}
-use Rattle.tx3g_read.specs.declared.Font.TheVariants.{Named, Missing}
+
+-- an entry's fields; or the first fault
+abbrev pub Entry : Type 0
+Entry = Result Fields Refusal
+
+pattern abbrev pub Whole : Fields → Entry
+Whole x = Ok x
+
+pattern abbrev pub Refused : Refusal → Entry
+Refused r = Err r
 
 -- red, green, blue, alpha
 unfoldable pub colour_at : List ℕ → ℕ → Colour
@@ -52,6 +58,13 @@ entry_by e Fine Nowhere = Refused (fault 4 0)
 unfoldable pub read_entry : List ℕ → Entry
 read_entry e = entry_by e (judge_entry e) (fonts_of e)
 
+-- a font: its ID, and where its name stands; or none
+abbrev pub Named : ℕ → ℕ → ℕ → Option Font
+Named i f n = Some (record { id = i; from = f; end = n })
+
+pattern abbrev pub Missing : Option Font
+Missing = None
+
 -- the font at q: ID (2), name length (1), name; missing where it ends past the bytes
-unfoldable pub font_in : List ℕ → ℕ → Font
+unfoldable pub font_in : List ℕ → ℕ → Option Font
 font_in e q = pick (ltb (length e) (after_font e q)) Missing (Named (be 2 e q) (q + 3) (after_font e q))

@@ -1,22 +1,18 @@
 -- What is handed out is what the entry and the sample hold. Proved in proofs/Fonts.antt and proofs/Texts.antt.
-use Rattle.std.specs.Prelude.{ℕ, suc, ◌+◌, ◌≤◌, ◌<◌, ◌≡◌, ◌↔◌, Bool, true, false, List, length}
-use Rattle.verdict.specs.declared.Verdict.TheVariants.{Fine}
+use Rattle.std.specs.Prelude.{ℕ, suc, ◌+◌, ◌≤◌, ◌<◌, ◌≡◌, ◌↔◌, Bool, true, false, List, length, Ok}
+use Rattle.verdict.specs.Verdict.{Fine}
 use Rattle.fields.specs.BigEndian.{be}
 use Rattle.utf8.specs.Utf8.{utf8}
 use Rattle.characters.specs.Characters.{firsts, utf16, first_units}
 use Rattle.boxes.specs.Boxes.{place_of, part}
 use Rattle.tx3g_fonts.specs.Fonts.{font_at, font_id}
-use Rattle.bodies.specs.declared.Body.TheVariants.{At}
+use Rattle.bodies.specs.Body.{At}
 use Rattle.tx3g_entry.specs.Entry.{fonts_of, judge_entry}
 use Rattle.tx3g_contents.specs.Kinds.{blnk}
-use Rattle.tx3g_sample.specs.declared.Reading.TheVariants.{Good}
+use Rattle.tx3g_sample.specs.Reading.{Good}
 use Rattle.tx3g_sample.specs.Sample.{text_end, read_sample}
-use Rattle.tx3g_read.specs.declared.Entry.TheVariants.{Whole}
-use Rattle.tx3g_read.specs.declared.Font.TheVariants.{Named}
-use Rattle.tx3g_read.specs.Entry.{fields_of, read_entry, font_in}
-use Rattle.tx3g_read.specs.declared.Content.{Content}
-use Rattle.tx3g_read.specs.declared.Content.TheVariants.{Whole as Held, BadEntry, BadSample}
-use Rattle.tx3g_read.specs.Sample.{text_of, content_of}
+use Rattle.tx3g_read.specs.Entry.{Whole, Named, fields_of, read_entry, font_in}
+use Rattle.tx3g_read.specs.Sample.{Held, BadEntry, BadSample, text_of, content_of}
 
 -- an entry without fault has fields; and from the first font on, each font is there, and the next stands where its name ends
 pub record Reads (e : List ℕ) : Type 0 where
@@ -46,8 +42,8 @@ abbrev pub BlnkAt : List ℕ → ℕ → Type 0
 BlnkAt s i = (place_of s (text_end s) i < length s) × (be 4 s (place_of s (text_end s) i + 4) ≡ blnk)
 
 -- an answer carries 'retired blinking present'
-abbrev pub Carries : Content → Type 0
-Carries (Held n t y b) = b ≡ true
+abbrev pub Carries : Held → Type 0
+Carries (Ok c) = c.retired_blinking ≡ true
 Carries (BadEntry r) = ⊥
 Carries (BadSample r) = ⊥
 

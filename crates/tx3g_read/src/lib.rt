@@ -9,14 +9,14 @@ ghost use Rattle.tx3g_style.specs.Style.{styles_of};
 ghost use Rattle.tx3g_read.specs.Entry.{colour_at, fields_of, read_entry, font_in};
 ghost use Rattle.tx3g_read.specs.Sample.{text_of, styles_in, retired_blinking, content_of};
 
-use bodies::{Body, find_body};
+use bodies::find_body;
 use fields::{get8, get16, get32};
 use signed::{get_signed8, get_signed16};
 use tx3g_contents::{BLNK, STYL};
 use tx3g_entry::{find_fonts, judge_entry};
-use tx3g_sample::{Reading, read_sample, text_end};
+use tx3g_sample::{Fault, read_sample, text_end};
 use tx3g_style::{Style, read_style};
-use verdict::{Refusal, Verdict, fault_at};
+use verdict::{Reason, Refusal, Verdict};
 
 #[derive(Clone, Copy)]
 pub struct Colour {
@@ -44,17 +44,12 @@ pub struct Fields {
     pub from: usize,
 }
 
-#[derive(Clone, Copy)]
-pub enum Entry {
-    Whole(Fields),
-    Refused(Refusal),
-}
-
 // A font: its ID, and where its name stands.
 #[derive(Clone, Copy)]
-pub enum Font {
-    Named { id: u32, from: usize, end: usize },
-    Missing,
+pub struct Font {
+    pub id: u32,
+    pub from: usize,
+    pub end: usize,
 }
 
 // How a text is encoded, and where it stands without its mark.
@@ -72,17 +67,13 @@ pub struct Styles {
     pub from: usize,
 }
 
-// What a sample holds, or the first fault and whose it is.
+// What a sample holds.
 #[derive(Clone, Copy)]
-pub enum Content {
-    Whole {
-        characters: usize,
-        text: Text,
-        styles: Styles,
-        retired_blinking: bool,
-    },
-    BadEntry(Refusal),
-    BadSample(Refusal),
+pub struct Content {
+    pub characters: usize,
+    pub text: Text,
+    pub styles: Styles,
+    pub retired_blinking: bool,
 }
 
 fn read_colour(s: &[u8], at: usize) -> Colour
@@ -119,52 +110,39 @@ fn read_fields(e: &[u8], fonts: usize) -> Fields
 }
 
 // The fields of an entry, which is judged first.
-pub fn read_entry(e: &[u8]) -> Entry
+pub fn read_entry(e: &[u8]) -> Result<Fields, Refusal>
     ensures { result ≡ read_entry e.now }
 {
-    let v = judge_entry(e);
-    let Verdict::Refused(why) = v else {
-        return match find_fonts(e) {
-            Body::At(fonts) => Entry::Whole(read_fields(e, fonts)),
-            Body::Refused(why) => Entry::Refused(why),
-            Body::Nowhere => Entry::Refused(fault_at(4, 0)),
-        };
+    judge_entry(e)?;
+    let Some(fonts) = find_fonts(e)? else {
+        return Err(Reason::BoxMissing.fault_at(0));
     };
-    Entry::Refused(why)
+    Ok(read_fields(e, fonts))
 }
 
-// The font that stands at `at`.
-pub fn font_at(e: &[u8], at: usize) -> Font
+// The font that stands at `at`; none where it ends past the bytes.
+pub fn font_at(e: &[u8], at: usize) -> Option<Font>
     ensures { result ≡ font_in e.now at }
 {
-    if e.len() < 3 {
-        return Font::Missing;
-    }
-    if e.len() - 3 < at {
-        return Font::Missing;
+    if e.len() < 3 || e.len() - 3 < at {
+        return None;
     }
     let end = at + 3 + get8(e, at + 2) as usize;
     if e.len() < end {
-        return Font::Missing;
+        return None;
     }
-    Font::Named {
+    Some(Font {
         id: get16(e, at),
         from: at + 3,
         end,
-    }
+    })
 }
 
 // Whether a text begins with the mark of UTF-16.
 fn has_mark(text: &[u8]) -> bool
     ensures { result ≡ starts_with mark text.now }
 {
-    if text.len() < 2 {
-        return false;
-    }
-    if text[0] == 0xFE {
-        return text[1] == 0xFF;
-    }
-    false
+    text.starts_with(&[0xFE, 0xFF])
 }
 
 // The text of a sample.
@@ -173,32 +151,25 @@ pub fn find_text(s: &[u8]) -> Text
     ensures { result ≡ text_of s.now }
 {
     let end = text_end(s);
-    if has_mark(&s[2..end]) {
-        return Text {
-            utf16: true,
-            from: 4,
-            end,
-        };
-    }
+    let utf16 = has_mark(&s[2..end]);
     Text {
-        utf16: false,
-        from: 2,
+        utf16,
+        from: if utf16 { 4 } else { 2 },
         end,
     }
 }
 
 // The styles of a sample without fault.
 pub fn find_styles(e: &[u8], s: &[u8], characters: usize) -> Styles
-    requires { read_sample e.now s.now ≡ Reading.Good characters }
+    requires { read_sample e.now s.now ≡ Ok characters }
     ensures { result ≡ styles_in s.now (styles_of s.now) }
 {
-    match find_body(s, text_end(s), STYL) {
-        Body::At(body) => Styles {
+    match find_body(s, text_end(s), STYL).ok().unwrap_or(None) {
+        Some(body) => Styles {
             count: get16(s, body),
             from: body + 2,
         },
-        Body::Refused(_) => Styles { count: 0, from: 0 },
-        Body::Nowhere => Styles { count: 0, from: 0 },
+        None => Styles { count: 0, from: 0 },
     }
 }
 
@@ -207,25 +178,21 @@ fn has_blinking(s: &[u8]) -> bool
     requires { 2 ≤ length s.now }
     ensures { result ≡ retired_blinking s.now }
 {
-    match find_body(s, text_end(s), BLNK) {
-        Body::At(_) => true,
-        Body::Refused(_) => false,
-        Body::Nowhere => false,
-    }
+    find_body(s, text_end(s), BLNK)
+        .ok()
+        .unwrap_or(None)
+        .is_some()
 }
 
 // What a sample holds: the entry is judged first, then the sample.
-pub fn read_content(e: &[u8], s: &[u8]) -> Content
+pub fn read_content(e: &[u8], s: &[u8]) -> Result<Content, Fault>
     ensures { result ≡ content_of e.now s.now }
 {
-    match read_sample(e, s) {
-        Reading::BadEntry(why) => Content::BadEntry(why),
-        Reading::BadSample(why) => Content::BadSample(why),
-        Reading::Good(characters) => Content::Whole {
-            characters,
-            text: find_text(s),
-            styles: find_styles(e, s, characters),
-            retired_blinking: has_blinking(s),
-        },
-    }
+    let characters = read_sample(e, s)?;
+    Ok(Content {
+        characters,
+        text: find_text(s),
+        styles: find_styles(e, s, characters),
+        retired_blinking: has_blinking(s),
+    })
 }

@@ -2,8 +2,7 @@
 -- `fonts` says which font IDs there are, c is the character count, p the box's place, b where its body begins.
 use Rattle.std.specs.Prelude.{ℕ, zero, suc, ◌+◌, ◌*◌, List, Bool, not, ltb, leb, eqb}
 use Rattle.base.specs.Choice.{pick, both}
-use Rattle.verdict.specs.declared.Verdict.{Verdict}
-use Rattle.verdict.specs.declared.Verdict.TheVariants.{Fine}
+use Rattle.verdict.specs.Verdict.{Verdict, Fine}
 use Rattle.verdict.specs.Judgement.{◌gives◌at◌, ◌then◌, each}
 use Rattle.fields.specs.BigEndian.{be}
 use Rattle.bodies.specs.Bodies.{filled}

@@ -13,7 +13,7 @@ use fields::{get8, get16, get32};
 use signed::is_ordered;
 use tx3g_contents::{KROK, STYL, TBOX, TWRP, is_ranged, judge_content};
 use tx3g_fonts::{enter_fonts, has_font_by_slots};
-use verdict::{Verdict, refused};
+use verdict::{Reason, Verdict};
 
 // Whether the range at `at` has start ≤ end ≤ the character count.
 fn is_range(s: &[u8], at: usize, characters: usize) -> bool
@@ -21,10 +21,7 @@ fn is_range(s: &[u8], at: usize, characters: usize) -> bool
     ensures { result ≡ in_range characters s.now at }
 {
     let end = get16(s, at + 2);
-    if get16(s, at) <= end {
-        return end as usize <= characters;
-    }
-    false
+    get16(s, at) <= end && end as usize <= characters
 }
 
 // Whether a style begins at or after the previous end, and has a range.
@@ -32,10 +29,7 @@ fn follows_style(s: &[u8], at: usize, previous: u32, characters: usize) -> bool
     requires { at + 12 ≤ length s.now }
     ensures { result ≡ both (leb previous (be 2 s.now at)) (in_range characters s.now at) }
 {
-    if previous <= get16(s, at) {
-        return is_range(s, at, characters);
-    }
-    false
+    previous <= get16(s, at) && is_range(s, at, characters)
 }
 
 // The style at `at`, after one that ends at `previous`.
@@ -53,13 +47,13 @@ fn judge_style(
     ensures { result ≡ style_fault (has_font e.now fonts) characters s.now place previous at }
 {
     let font = get16(s, at + 4);
-    if has_font_by_slots(e, fonts, slots, font) {
-        if follows_style(s, at, previous, characters) {
-            return Verdict::Fine;
-        }
-        return refused(7, place);
+    if !has_font_by_slots(e, fonts, slots, font) {
+        Reason::BadValue.refused(place)
+    } else if follows_style(s, at, previous, characters) {
+        Ok(())
+    } else {
+        Reason::BadRange.refused(place)
     }
-    refused(8, place)
 }
 
 // The styles of a `styl`, one after the other. The fonts are entered in slots first, so that a style's is mostly found at once.
@@ -79,17 +73,12 @@ fn judge_styles(
     enter_fonts(e, fonts, &mut slots);
     let count = get16(s, body) as usize;
     let mut previous = 0;
-    let mut k = 0;
-    while k < count {
+    for k in 0..count {
         let at = body + 2 + k * 12;
-        let v = judge_style(e, fonts, &slots, s, place, previous, at, characters);
-        let Verdict::Fine = v else {
-            return v;
-        };
+        judge_style(e, fonts, &slots, s, place, previous, at, characters)?;
         previous = get16(s, at + 2);
-        k += 1;
     }
-    Verdict::Fine
+    Ok(())
 }
 
 // The karaoke entry at `at`, after the time `previous`.
@@ -97,13 +86,11 @@ fn judge_turn(s: &[u8], place: usize, previous: u32, at: usize, characters: usiz
     requires { at + 8 ≤ length s.now }
     ensures { result ≡ turn_fault characters s.now place previous at }
 {
-    if previous <= get32(s, at) {
-        if is_range(s, at + 4, characters) {
-            return Verdict::Fine;
-        }
-        return refused(7, place);
+    if previous <= get32(s, at) && is_range(s, at + 4, characters) {
+        Ok(())
+    } else {
+        Reason::BadRange.refused(place)
     }
-    refused(7, place)
 }
 
 // The entries of a `krok`, one after the other.
@@ -113,17 +100,12 @@ fn judge_karaoke(s: &[u8], place: usize, body: usize, characters: usize) -> Verd
 {
     let count = get16(s, body + 4) as usize;
     let mut previous = get32(s, body);
-    let mut k = 0;
-    while k < count {
+    for k in 0..count {
         let at = body + 6 + k * 8;
-        let v = judge_turn(s, place, previous, at, characters);
-        let Verdict::Fine = v else {
-            return v;
-        };
+        judge_turn(s, place, previous, at, characters)?;
         previous = get32(s, at);
-        k += 1;
     }
-    Verdict::Fine
+    Ok(())
 }
 
 fn judge_range(s: &[u8], place: usize, body: usize, characters: usize) -> Verdict
@@ -131,9 +113,10 @@ fn judge_range(s: &[u8], place: usize, body: usize, characters: usize) -> Verdic
     ensures { result ≡ range_fault characters s.now place body }
 {
     if is_range(s, body, characters) {
-        return Verdict::Fine;
+        Ok(())
+    } else {
+        Reason::BadRange.refused(place)
     }
-    refused(7, place)
 }
 
 fn judge_text_box(s: &[u8], place: usize, body: usize) -> Verdict
@@ -141,9 +124,10 @@ fn judge_text_box(s: &[u8], place: usize, body: usize) -> Verdict
     ensures { result ≡ box_fault s.now place body }
 {
     if is_ordered(s, body) {
-        return Verdict::Fine;
+        Ok(())
+    } else {
+        Reason::BadRange.refused(place)
     }
-    refused(7, place)
 }
 
 fn judge_wrap(s: &[u8], place: usize, body: usize) -> Verdict
@@ -151,9 +135,10 @@ fn judge_wrap(s: &[u8], place: usize, body: usize) -> Verdict
     ensures { result ≡ wrap_fault s.now place body }
 {
     if 1 < get8(s, body) {
-        return refused(8, place);
+        Reason::BadValue.refused(place)
+    } else {
+        Ok(())
     }
-    Verdict::Fine
 }
 
 // The values of a body that is filled.
@@ -169,22 +154,14 @@ fn judge_records(
     requires { (font_at e.now fonts (be 2 e.now fonts) ≤ length e.now) × (content_end s.now kind body ≤ length s.now) }
     ensures { result ≡ judge_records (has_font e.now fonts) characters s.now place kind body }
 {
-    if kind == STYL {
-        return judge_styles(e, fonts, s, place, body, characters);
+    match kind {
+        STYL => judge_styles(e, fonts, s, place, body, characters),
+        KROK => judge_karaoke(s, place, body, characters),
+        TBOX => judge_text_box(s, place, body),
+        TWRP => judge_wrap(s, place, body),
+        _ if is_ranged(kind) => judge_range(s, place, body, characters),
+        _ => Ok(()),
     }
-    if kind == KROK {
-        return judge_karaoke(s, place, body, characters);
-    }
-    if kind == TBOX {
-        return judge_text_box(s, place, body);
-    }
-    if kind == TWRP {
-        return judge_wrap(s, place, body);
-    }
-    if is_ranged(kind) {
-        return judge_range(s, place, body, characters);
-    }
-    Verdict::Fine
 }
 
 // The body of a modifier box at `place`, from `body` to `next`.
@@ -201,9 +178,6 @@ pub fn judge_body(
     requires { (font_at e.now fonts (be 2 e.now fonts) ≤ length e.now) × (body ≤ next) × (next ≤ length s.now) }
     ensures { result ≡ judge_body (has_font e.now fonts) characters s.now place kind body next }
 {
-    let v = judge_content(s, place, kind, body, next);
-    let Verdict::Fine = v else {
-        return v;
-    };
+    judge_content(s, place, kind, body, next)?;
     judge_records(e, fonts, s, place, kind, body, characters)
 }

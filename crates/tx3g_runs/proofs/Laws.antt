@@ -1,34 +1,14 @@
 -- Laws of specs/Runs.antt: the styles that are left, one by one.
 use Prim.Native.Nat.{ℕ, zero, suc, ◌+◌, ◌-◌, ◌≤◌, ◌<◌}
-use mathlib.Core.Path.{◌≡◌, refl, sym, ◌∙◌}
-use mathlib.Core.Bool.{Bool, true, false}
+use mathlib.Core.Path.{◌≡◌, refl}
+use mathlib.Core.Bool.{true, false}
 use mathlib.Core.List.{List}
 use native.Mathlib.Omega.{arith}
-use lib.Dec.{ltb, leb}
+use lib.Dec.{leb}
 use lib.ListN.{length}
-use borrow.Author.Tests.{le-leb, lt-leb, lt-ltb, le-ltb, leb-true, leb-false}
-use Rattle.fields.specs.BigEndian.{be}
+use borrow.Author.Tests.{le-leb, lt-leb}
 use Rattle.tx3g_runs.specs.declared.Run.TheVariants.{Plain, End}
 use Rattle.tx3g_runs.specs.Runs.{lasts, run_by, run_among, next_run}
-
-pub room-is : (at n : ℕ) → 12 ≤ n → leb at (n - 12) ≡ leb (at + 12) n
-room-is at n h = go (leb at (n - 12)) refl
-  where
-    go : (t : Bool) → leb at (n - 12) ≡ t → leb at (n - 12) ≡ leb (at + 12) n
-    go true e = let l = leb-true at (n - 12) e in e ∙ sym (le-leb (at + 12) n (omega arith))
-    go false e = let l = leb-false at (n - 12) e in e ∙ sym (lt-leb (at + 12) n (omega arith))
-
-pub room-none : (at n : ℕ) → n < 12 → false ≡ leb (at + 12) n
-room-none at n h = sym (lt-leb (at + 12) n (omega arith))
-
--- a style that has a character from k on, by its two numbers
-pub lasts-here : (s : List ℕ) (k q end start : ℕ) → end ≡ be 2 s (q + 2) → start ≡ be 2 s q → k < end → ltb start end ≡ lasts s k q
-unfolding lasts
-lasts-here s k q end start e f h = rw (e, f, lt-ltb k (be 2 s (q + 2)) (omega (arith, e, h)))
-
-pub lasts-not : (s : List ℕ) (k q end : ℕ) → end ≡ be 2 s (q + 2) → end ≤ k → false ≡ lasts s k q
-unfolding lasts
-lasts-not s k q end e h = rw (le-ltb k (be 2 s (q + 2)) (omega (arith, e, h)))
 
 module _ (s : List ℕ) (q k n : ℕ) where
   pub next-end : (left : ℕ) → n ≤ k → next_run s left q k n ≡ End

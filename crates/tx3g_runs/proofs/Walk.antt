@@ -11,12 +11,12 @@ use borrow.Author.Tests.{le-leb, lt-leb, lt-ltb, le-ltb, ltb-true, leb-true}
 use Rattle.base.specs.Choice.{both}
 use Rattle.base.proofs.Choice.{by-test, either, both_left, both_right, true-false}
 use Rattle.fields.specs.BigEndian.{be}
-use Rattle.bodies.specs.declared.Body.TheVariants.{At}
+use Rattle.bodies.specs.Body.{At}
 use Rattle.tx3g_rules.specs.Rules.{style_at}
 use Rattle.tx3g_rules.proofs.Laws.{style-room, style-place}
-use Rattle.tx3g_sample.specs.declared.Reading.TheVariants.{Good}
+use Rattle.tx3g_sample.specs.Reading.{Good}
 use Rattle.tx3g_sample.specs.Sample.{read_sample}
-use Rattle.tx3g_style.specs.declared.Styled.TheVariants.{Found}
+use Rattle.tx3g_style.specs.Styled.{Found}
 use Rattle.tx3g_style.specs.Style.{holds_at, holds, style_in, default_style, style_among, styles_of, style_of}
 use Rattle.tx3g_style.proofs.Laws.{NoneBefore, style-found, style-none, styles-lie}
 use Rattle.tx3g_style.proofs.Only.{styles-ordered}

@@ -1,11 +1,11 @@
 -- What a run is, said of the styles of its characters. Proved in proofs/Walk.antt.
 use Rattle.std.specs.Prelude.{ℕ, ◌+◌, ◌≤◌, ◌<◌, ◌≡◌, ◌⊎◌, true, false, List}
 use Rattle.fields.specs.BigEndian.{be}
-use Rattle.bodies.specs.declared.Body.TheVariants.{At, Nowhere}
+use Rattle.bodies.specs.Body.{At, Nowhere}
 use Rattle.tx3g_rules.specs.Rules.{style_at}
-use Rattle.tx3g_sample.specs.declared.Reading.TheVariants.{Good}
+use Rattle.tx3g_sample.specs.Reading.{Good}
 use Rattle.tx3g_sample.specs.Sample.{read_sample}
-use Rattle.tx3g_style.specs.declared.Styled.TheVariants.{Found}
+use Rattle.tx3g_style.specs.Styled.{Found}
 use Rattle.tx3g_style.specs.Style.{holds, default_style, styles_of, style_of}
 use Rattle.tx3g_runs.specs.declared.Run.{Run}
 use Rattle.tx3g_runs.specs.declared.Run.TheVariants.{Styled, Plain, End}

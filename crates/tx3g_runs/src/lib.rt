@@ -5,11 +5,11 @@ ghost use Rattle.std.specs.Prelude.{◌≡◌, ◌+◌, ◌≤◌, ◌<◌, leb,
 ghost use Rattle.tx3g_runs.specs.declared.Run.TheVariants.{Plain};
 ghost use Rattle.tx3g_runs.specs.Runs.{lasts, run_by, next_run};
 
-use compare::least;
 use fields::get16;
 use tx3g_style::{Style, read_style};
 
 // A run from a character to before `end`; then how many styles are left behind it, and where the first of them stands.
+// `End` stands among the kinds of answer: with `Option` around the other two each reader would take two enums apart.
 #[derive(Clone, Copy)]
 pub enum Run {
     Styled {
@@ -30,10 +30,7 @@ pub enum Run {
 fn has_style(s: &[u8], at: usize) -> bool
     ensures { result ≡ leb (at + 12) (length s.now) }
 {
-    if s.len() < 12 {
-        return false;
-    }
-    at <= s.len() - 12
+    12 <= s.len() && at <= s.len() - 12
 }
 
 // Whether the style at `at` has a character from k on.
@@ -42,10 +39,7 @@ fn lasts_from(s: &[u8], at: usize, k: usize) -> bool
     ensures { result ≡ lasts s.now k at }
 {
     let end = get16(s, at + 2);
-    if k < end as usize {
-        return get16(s, at) < end;
-    }
-    false
+    k < end as usize && get16(s, at) < end
 }
 
 // The run from k: up to the style at `at`, or of that style.
@@ -55,17 +49,18 @@ fn run_by(s: &[u8], left: usize, at: usize, k: usize, characters: usize) -> Run
 {
     let start = get16(s, at) as usize;
     if k < start {
-        return Run::Plain {
-            end: least(start, characters),
+        Run::Plain {
+            end: start.min(characters),
             left,
             next: at,
-        };
-    }
-    Run::Styled {
-        end: least(get16(s, at + 2) as usize, characters),
-        style: read_style(s, at),
-        left: left - 1,
-        next: at + 12,
+        }
+    } else {
+        Run::Styled {
+            end: (get16(s, at + 2) as usize).min(characters),
+            style: read_style(s, at),
+            left: left - 1,
+            next: at + 12,
+        }
     }
 }
 
@@ -87,16 +82,14 @@ pub fn next_run(s: &[u8], count: usize, from: usize, k: usize, characters: usize
     if characters <= k {
         return Run::End;
     }
-    let mut left = count;
     let mut at = from;
-    while left > 0 {
+    for passed in 0..count {
         if !has_style(s, at) {
             return plain_to(characters);
         }
         if lasts_from(s, at, k) {
-            return run_by(s, left, at, k, characters);
+            return run_by(s, count - passed, at, k, characters);
         }
-        left -= 1;
         at += 12;
     }
     plain_to(characters)

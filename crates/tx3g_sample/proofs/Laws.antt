@@ -7,13 +7,12 @@ use native.Mathlib.Omega.{arith}
 use lib.Dec.{ltb}
 use lib.ListN.{length}
 use borrow.Author.Tests.{ltb-false, lt-ltb, le-ltb}
-use Rattle.verdict.specs.declared.Verdict.{Verdict}
-use Rattle.verdict.specs.declared.Verdict.TheVariants.{Fine, Refused}
+use Rattle.verdict.specs.Verdict.{Verdict, Fine, Refused}
 use Rattle.verdict.specs.Judgement.{bad_text, ◌gives◌at◌, ◌then◌, refuse}
 use Rattle.verdict.proofs.Judgement.{both-fine}
-use Rattle.characters.specs.declared.Counted.TheVariants.{Characters, Bad}
+use Rattle.characters.specs.Counted.{Counted, Characters, Bad}
 use Rattle.verdict.specs.declared.Refusal.{Refusal}
-use Rattle.bodies.specs.declared.Body.TheVariants.{At, Refused as Stopped}
+use Rattle.bodies.specs.Body.{At, Refused as Stopped}
 use Rattle.bodies.specs.Bodies.{body_of, filled}
 use Rattle.bodies.proofs.Filled.{fine-false, filled-fine}
 use Rattle.bodies.proofs.Laws.{judged-found, judged-whole}
@@ -24,23 +23,25 @@ use Rattle.tx3g_contents.specs.Contents.{content_end}
 use Rattle.tx3g_rules.specs.Rules.{judge_records, judge_body}
 use Rattle.tx3g_fonts.specs.Fonts.{has_font}
 use Rattle.tx3g_entry.specs.Entry.{nothing_more, fonts_of, judge_entry}
-use Rattle.tx3g_sample.specs.declared.Reading.TheVariants.{Good}
-use Rattle.tx3g_sample.specs.declared.Text.TheVariants.{Whole, Bad as BadText}
-use Rattle.tx3g_sample.specs.Sample.{text_end, counted, counted_at, characters_in, judge_text, in_sample, modifiers_of, fonts_in, judge_modifiers, judge_sample, answer_of, read_sample, verdict_of}
+use Rattle.tx3g_sample.specs.Reading.{Good}
+use Rattle.tx3g_sample.specs.Text.{Whole, Bad as BadText}
+use Rattle.tx3g_sample.specs.Sample.{text_end, counted, counted_at, count_of, characters_in, judge_text, in_sample, modifiers_of, fonts_in, judge_modifiers, judge_sample, answer_of, read_sample}
 use Rattle.tx3g_sample.specs.Terms.{text_read}
+use Rattle.tx3g_sample.proofs.Errors.{err_by}
 
--- the text past the bytes, a text that is bad, and one that is not
+-- the text past the bytes
 pub text-past : (s : List ℕ) → length s < text_end s → judge_text s ≡ refuse 1 0
 unfolding judge_text
 text-past s h = rw (lt-ltb (length s) (text_end s) h)
 
-pub text-bad : (s : List ℕ) (q : ℕ) → text_end s ≤ length s → counted s ≡ Bad q → judge_text s ≡ Refused (bad_text 0 q)
-unfolding judge_text
-text-bad s q h e = rw (le-ltb (length s) (text_end s) h, e)
-
-pub text-good : (s : List ℕ) (n : ℕ) → text_end s ≤ length s → counted s ≡ Characters n → (judge_text s ≡ Fine) × (characters_in s ≡ n)
+-- and how one within the bytes is counted
+pub text-counted : (s : List ℕ) → text_end s ≤ length s → err_by (bad_text 0) (counted s) ≡ text_read (judge_text s) (characters_in s)
 unfolding judge_text characters_in
-text-good s n h e = (rw (le-ltb (length s) (text_end s) h, e), rw e)
+text-counted s h = rw (le-ltb (length s) (text_end s) h) (go (counted s))
+  where
+    go : (t : Counted) → err_by (bad_text 0) t ≡ text_read (counted_at 0 t) (count_of t)
+    go (Characters n) = refl
+    go (Bad q) = refl
 
 pub text-fine : (s : List ℕ) → judge_text s ≡ Fine → text_end s ≤ length s
 unfolding judge_text
@@ -124,8 +125,3 @@ records-fine e c s k b h m q =
     let u = (both-fine (both (single k) (among k j.kinds) gives 3 at j.place) (pick (known k) (judge_body (fonts_in e (fonts_of e)) c s j.place k b j.next) Fine) j.fine).1 in
     let v : (filled j.place (content_end s k b) j.next then judge_records (fonts_in e (fonts_of e)) c s j.place k b) ≡ Fine = rw h at u in
     (j.place, (both-fine (filled j.place (content_end s k b) j.next) (judge_records (fonts_in e (fonts_of e)) c s j.place k b) v).1)
-
--- the verdict of a reading beside an entry without fault is the sample's
-pub verdict-beside : (v : Verdict) (n : ℕ) → verdict_of (answer_of Fine v n) ≡ v
-verdict-beside Fine n = refl
-verdict-beside (Refused r) n = refl

@@ -1,22 +1,18 @@
 -- The reading of a `tx3g` sample. Document 01, '3GPP text' and 'Order': a byte count (2), the text, then modifier boxes; the entry is judged first.
 use Rattle.std.specs.Prelude.{ℕ, ◌+◌, List, [], Bool, false, ltb, length}
 use Rattle.base.specs.Choice.{pick, both}
-use Rattle.verdict.specs.declared.Verdict.{Verdict}
-use Rattle.verdict.specs.declared.Verdict.TheVariants.{Fine, Refused}
+use Rattle.verdict.specs.Verdict.{Verdict, Fine, Refused}
 use Rattle.verdict.specs.Judgement.{bad_text, ◌gives◌at◌, ◌then◌}
 use Rattle.fields.specs.BigEndian.{be}
-use Rattle.characters.specs.declared.Counted.{Counted}
-use Rattle.characters.specs.declared.Counted.TheVariants.{Characters, Bad}
+use Rattle.characters.specs.Counted.{Counted, Characters, Bad}
 use Rattle.characters.specs.Characters.{characters_of}
 use Rattle.boxes.specs.Boxes.{boxes_in, judged, among, part}
-use Rattle.bodies.specs.declared.Body.{Body}
-use Rattle.bodies.specs.declared.Body.TheVariants.{At, Refused as Stopped, Nowhere}
+use Rattle.bodies.specs.Body.{Body, At, Refused as Stopped, Nowhere}
 use Rattle.tx3g_fonts.specs.Fonts.{has_font}
 use Rattle.tx3g_entry.specs.Entry.{nothing_more, fonts_of, judge_entry}
 use Rattle.tx3g_contents.specs.Kinds.{single, known}
 use Rattle.tx3g_rules.specs.Rules.{judge_body}
-use Rattle.tx3g_sample.specs.declared.Reading.{Reading}
-use Rattle.tx3g_sample.specs.declared.Reading.TheVariants.{Good, BadEntry, BadSample}
+use Rattle.tx3g_sample.specs.Reading.{Reading, Good, BadEntry, BadSample}
 
 -- where the text ends, and the boxes begin; past the bytes also where the byte count is missing
 unfoldable pub text_end : List ℕ → ℕ

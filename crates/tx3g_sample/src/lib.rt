@@ -2,40 +2,28 @@
 #![tactic(auto)]
 
 ghost use Rattle.std.specs.Prelude.{◌≡◌, List, ℕ, ◌+◌, ◌≤◌, length};
-ghost use Rattle.verdict.specs.declared.Verdict.TheVariants.{Fine};
+ghost use Rattle.verdict.specs.Verdict.{Fine};
 ghost use Rattle.fields.specs.BigEndian.{be};
 ghost use Rattle.tx3g_fonts.specs.Fonts.{font_at, has_font};
 ghost use Rattle.tx3g_entry.specs.Entry.{judge_entry};
 ghost use Rattle.tx3g_seen.specs.Seen.{Marks};
-ghost use Rattle.tx3g_sample.specs.Sample.{text_end, characters_in, judge_text, in_sample, judge_modifiers, modifiers_of, judge_sample, answer_of, read_sample, verdict_of};
+ghost use Rattle.tx3g_sample.specs.Sample.{text_end, characters_in, judge_text, in_sample, judge_modifiers, modifiers_of, judge_sample, read_sample};
 ghost use Rattle.tx3g_sample.specs.Terms.{text_read};
 
-use bodies::Body;
 use boxes::{Step, step_at, stopped_by};
-use characters::{Counted, count_characters};
+use characters::count_characters;
 use fields::get16;
 use tx3g_contents::is_known;
 use tx3g_entry::{find_fonts, judge_entry};
 use tx3g_rules::judge_body;
 use tx3g_seen::{Seen, repeats, with_kind};
-use verdict::{Refusal, Verdict, bad_text_at, fault_at, refused};
+use verdict::{Reason, Refusal, Verdict, bad_text_at};
 
-// What a sample and its entry are read as.
+// The first fault of a sample and its entry, and whose it is.
 #[derive(Clone, Copy)]
-pub enum Reading {
-    // No fault; the character count of the text.
-    Good(usize),
-    // The entry is at fault.
-    BadEntry(Refusal),
-    // The sample is at fault.
-    BadSample(Refusal),
-}
-
-// What a text is read as.
-#[derive(Clone, Copy)]
-enum Text {
-    Whole(usize),
-    Bad(Refusal),
+pub enum Fault {
+    Entry(Refusal),
+    Sample(Refusal),
 }
 
 // Where the text ends, and the modifier boxes begin.
@@ -47,21 +35,17 @@ pub fn text_end(s: &[u8]) -> usize
 }
 
 // The text, whose characters are counted.
-fn read_text(s: &[u8]) -> Text
+fn read_text(s: &[u8]) -> Result<usize, Refusal>
     ensures { result ≡ text_read (judge_text s.now) (characters_in s.now) }
 {
     if s.len() < 2 {
-        return Text::Bad(fault_at(1, 0));
+        return Err(Reason::BytesMissing.fault_at(0));
     }
     let end = text_end(s);
     if s.len() < end {
-        return Text::Bad(fault_at(1, 0));
+        return Err(Reason::BytesMissing.fault_at(0));
     }
-    let t = count_characters(&s[2..end]);
-    match t {
-        Counted::Characters(n) => Text::Whole(n),
-        Counted::Bad(offset) => Text::Bad(bad_text_at(0, offset)),
-    }
+    count_characters(&s[2..end]).map_err(|offset| bad_text_at(0, offset))
 }
 
 // A box of a sample, after those that have been there.
@@ -80,12 +64,12 @@ fn judge_part(
     ensures { (before : List ℕ) → Marks seen before → result ≡ in_sample (has_font e.now fonts) characters s.now before place kind body next }
 {
     if repeats(seen, kind) {
-        return refused(3, place);
+        Reason::KindTwice.refused(place)
+    } else if is_known(kind) {
+        judge_body(e, fonts, s, place, kind, body, next, characters)
+    } else {
+        Ok(())
     }
-    if is_known(kind) {
-        return judge_body(e, fonts, s, place, kind, body, next, characters);
-    }
-    Verdict::Fine
 }
 
 // The modifier boxes from `from` on, beside the fonts that stand at `fonts` in the entry.
@@ -108,10 +92,7 @@ fn judge_modifiers(e: &[u8], fonts: usize, s: &[u8], from: usize, characters: us
         let Step::Box { kind, body, next } = t else {
             return stopped_by(t);
         };
-        let v = judge_part(e, fonts, s, seen, at, kind, body, next, characters);
-        let Verdict::Fine = v else {
-            return v;
-        };
+        judge_part(e, fonts, s, seen, at, kind, body, next, characters)?;
         seen = with_kind(seen, kind);
         at = next;
     }
@@ -122,55 +103,28 @@ fn judge_boxes(e: &[u8], s: &[u8], characters: usize) -> Verdict
     requires { (judge_entry e.now ≡ Fine) × (2 ≤ length s.now) }
     ensures { result ≡ judge_modifiers e.now characters s.now }
 {
-    match find_fonts(e) {
-        Body::At(fonts) => judge_modifiers(e, fonts, s, text_end(s), characters),
-        Body::Refused(why) => Verdict::Refused(why),
-        Body::Nowhere => Verdict::Fine,
-    }
+    let Some(fonts) = find_fonts(e)? else {
+        return Ok(());
+    };
+    judge_modifiers(e, fonts, s, text_end(s), characters)
 }
 
-fn read_boxes(e: &[u8], s: &[u8], characters: usize) -> Reading
-    requires { (judge_entry e.now ≡ Fine) × (2 ≤ length s.now) }
-    ensures { result ≡ answer_of Fine (judge_modifiers e.now characters s.now) characters }
-{
-    let v = judge_boxes(e, s, characters);
-    match v {
-        Verdict::Refused(why) => Reading::BadSample(why),
-        Verdict::Fine => Reading::Good(characters),
-    }
-}
-
-fn read_beside(e: &[u8], s: &[u8]) -> Reading
+// The characters of a sample beside an entry without fault; or its first fault.
+fn read_beside(e: &[u8], s: &[u8]) -> Result<usize, Refusal>
     requires { judge_entry e.now ≡ Fine }
-    ensures { result ≡ answer_of Fine (judge_sample e.now s.now) (characters_in s.now) }
+    ensures { result ≡ text_read (judge_sample e.now s.now) (characters_in s.now) }
 {
-    let t = read_text(s);
-    match t {
-        Text::Bad(why) => Reading::BadSample(why),
-        Text::Whole(characters) => read_boxes(e, s, characters),
-    }
+    let characters = read_text(s)?;
+    judge_boxes(e, s, characters)?;
+    Ok(characters)
 }
 
 // The reading of a sample beside its entry: the entry is judged first.
-pub fn read_sample(e: &[u8], s: &[u8]) -> Reading
+pub fn read_sample(e: &[u8], s: &[u8]) -> Result<usize, Fault>
     ensures { result ≡ read_sample e.now s.now }
 {
-    let v = judge_entry(e);
-    match v {
-        Verdict::Refused(why) => Reading::BadEntry(why),
-        Verdict::Fine => read_beside(e, s),
-    }
-}
-
-// The verdict of a reading, whoever is at fault.
-pub fn verdict_of(r: Reading) -> Verdict
-    ensures { result ≡ verdict_of r }
-{
-    match r {
-        Reading::Good(_) => Verdict::Fine,
-        Reading::BadEntry(why) => Verdict::Refused(why),
-        Reading::BadSample(why) => Verdict::Refused(why),
-    }
+    judge_entry(e).map_err(Fault::Entry)?;
+    read_beside(e, s).map_err(Fault::Sample)
 }
 
 // The verdict on a sample beside an entry without fault: for a track, whose entry is judged once.
@@ -178,5 +132,6 @@ pub fn judge_beside(e: &[u8], s: &[u8]) -> Verdict
     requires { judge_entry e.now ≡ Fine }
     ensures { result ≡ judge_sample e.now s.now }
 {
-    verdict_of(read_beside(e, s))
+    read_beside(e, s)?;
+    Ok(())
 }

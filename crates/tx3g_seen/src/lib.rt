@@ -23,34 +23,21 @@ pub struct Seen {
 pub fn repeats(seen: Seen, kind: u32) -> bool
     ensures { (before : List ℕ) → Marks seen before → result ≡ both (single kind) (among kind before) }
 {
-    if kind == STYL {
-        return seen.styl;
+    match kind {
+        STYL => seen.styl,
+        HCLR => seen.hclr,
+        KROK => seen.krok,
+        DLAY => seen.dlay,
+        TBOX => seen.tbox,
+        TWRP => seen.twrp,
+        _ => false,
     }
-    if kind == HCLR {
-        return seen.hclr;
-    }
-    if kind == KROK {
-        return seen.krok;
-    }
-    if kind == DLAY {
-        return seen.dlay;
-    }
-    if kind == TBOX {
-        return seen.tbox;
-    }
-    if kind == TWRP {
-        return seen.twrp;
-    }
-    false
 }
 
 fn mark(flag: bool, kind: u32, wanted: u32) -> bool
     ensures { result ≡ any_of (eqb kind wanted) flag }
 {
-    if kind == wanted {
-        return true;
-    }
-    flag
+    kind == wanted || flag
 }
 
 // The marks with one more box.

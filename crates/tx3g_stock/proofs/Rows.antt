@@ -5,7 +5,7 @@ use mathlib.Core.List.{List}
 use native.Mathlib.Omega.{arith}
 use native.Mathlib.Numerals.{add-one}
 use lib.ListN.{length, take, drop, length-take}
-use Rattle.verdict.specs.declared.Verdict.TheVariants.{Fine}
+use Rattle.verdict.specs.Verdict.{Fine}
 use Rattle.verdict.proofs.Judgement.{both-fine}
 use Rattle.boxes.specs.Boxes.{part}
 use Rattle.table.specs.Table.{row_count, duration_of, size_of, offset_of, bytes_of, ReadableBy}

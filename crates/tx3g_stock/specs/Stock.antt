@@ -1,7 +1,7 @@
 -- A `tx3g` track: its judgement beside an entry, and the boxes that a conversion drops. Document 01, 'Order'; document 02, K9.
 use Rattle.std.specs.Prelude.{ℕ, zero, suc, ◌+◌, List, eqb, length}
 use Rattle.base.specs.Choice.{pick}
-use Rattle.verdict.specs.declared.Verdict.{Verdict}
+use Rattle.verdict.specs.Verdict.{Verdict}
 use Rattle.boxes.specs.Boxes.{Boxes, clean, broken, box, boxes_in}
 use Rattle.table.specs.Table.{row_count, bytes_of, judge_row_by, judge_rows}
 use Rattle.tx3g_contents.specs.Kinds.{hlit, blnk, hclr, krok, dlay, href, tbox, twrp}

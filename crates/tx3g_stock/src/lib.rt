@@ -3,15 +3,13 @@
 
 ghost use Rattle.std.specs.Prelude.{◌≡◌, List, ℕ, ◌+◌, ◌*◌, ◌≤◌, ◌<◌, eqb, length};
 ghost use Rattle.base.specs.Choice.{pick};
-ghost use Rattle.verdict.specs.declared.Verdict.TheVariants.{Fine};
-ghost use Rattle.table.specs.Table.{offset_of, judge_row_by};
+ghost use Rattle.verdict.specs.Verdict.{Fine};
 ghost use Rattle.tx3g_entry.specs.Entry.{judge_entry};
-ghost use Rattle.tx3g_sample.specs.Sample.{judge_sample};
 ghost use Rattle.tx3g_stock.specs.Stock.{judge_stock, kinds_in, counts_by, counts_of};
 ghost use Rattle.tx3g_stock.specs.Terms.{together, Each, AtMost};
 
 use boxes::{Step, step_at};
-use table::{judge_left, judge_row, judge_whole, place_at, size_at};
+use table::{judge_by, size_at};
 use tx3g_contents::{BLNK, DLAY, HCLR, HLIT, HREF, KROK, TBOX, TWRP};
 use tx3g_sample::{judge_beside, text_end};
 use verdict::Verdict;
@@ -40,40 +38,12 @@ const NONE: Counts = Counts {
     twrp: 0,
 };
 
-// Row i and its sample, whose bytes begin at `at`, beside an entry without fault.
-fn read_row(e: &[u8], table: &[u8], samples: &[u8], i: usize, at: usize) -> Verdict
-    requires { (judge_entry e.now ≡ Fine) × (i * 8 + 8 ≤ length table.now) × (at ≡ offset_of table.now i) × (at ≤ length samples.now) }
-    ensures { result ≡ judge_row_by (judge_sample e.now) table.now samples.now i }
-{
-    let v = judge_row(table, samples, i, at);
-    let Verdict::Fine = v else {
-        return v;
-    };
-    let end = at + size_at(table, i);
-    place_at(judge_beside(e, &samples[at..end]), i)
-}
-
 // The verdict on a track beside an entry without fault.
 pub fn judge_stock(e: &[u8], table: &[u8], samples: &[u8]) -> Verdict
     requires { judge_entry e.now ≡ Fine }
     ensures { result ≡ judge_stock e.now table.now samples.now }
 {
-    let whole = judge_whole(table);
-    let Verdict::Fine = whole else {
-        return whole;
-    };
-    let count = table.len() / 8;
-    let mut at = 0;
-    let mut i = 0;
-    while i < count {
-        let v = read_row(e, table, samples, i, at);
-        let Verdict::Fine = v else {
-            return v;
-        };
-        at += size_at(table, i);
-        i += 1;
-    }
-    judge_left(samples, count, at)
+    judge_by(&|s: &[u8]| judge_beside(e, s), table, samples)
 }
 
 // A count, with one more for a box of the wanted kind.
@@ -81,10 +51,7 @@ fn count_kind(n: usize, kind: u32, wanted: u32) -> usize
     requires { n < 18446744073709551615 }
     ensures { result ≡ n + pick (eqb kind wanted) 1 0 }
 {
-    if kind == wanted {
-        return n + 1;
-    }
-    n
+    n + usize::from(kind == wanted)
 }
 
 // The counts with one more box.
@@ -135,12 +102,10 @@ pub fn count_stock(table: &[u8], samples: &[u8]) -> Counts
     let count = table.len() / 8;
     let mut counts = NONE;
     let mut at = 0;
-    let mut i = 0;
-    while i < count {
+    for i in 0..count {
         let end = at + size_at(table, i);
         counts = count_boxes(&samples[at..end], counts);
         at = end;
-        i += 1;
     }
     counts
 }

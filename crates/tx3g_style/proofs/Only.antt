@@ -9,16 +9,16 @@ use lib.Dec.{ltb, leb}
 use borrow.Author.Tests.{leb-true, ltb-true, not-false}
 use Rattle.base.specs.Choice.{both}
 use Rattle.base.proofs.Choice.{both_left, both_right, either}
-use Rattle.verdict.specs.declared.Verdict.TheVariants.{Fine}
+use Rattle.verdict.specs.Verdict.{Fine}
 use Rattle.verdict.specs.Judgement.{◌gives◌at◌, each}
 use Rattle.verdict.proofs.Judgement.{each-fine, both-fine}
 use Rattle.fields.specs.BigEndian.{be}
-use Rattle.bodies.specs.declared.Body.TheVariants.{At}
+use Rattle.bodies.specs.Body.{At}
 use Rattle.bodies.proofs.Filled.{fine-false}
 use Rattle.tx3g_contents.specs.Kinds.{styl, single, known}
 use Rattle.tx3g_entry.specs.Entry.{fonts_of}
 use Rattle.tx3g_rules.specs.Rules.{in_range, style_fault, style_at, end_before, judge_style, judge_records}
-use Rattle.tx3g_sample.specs.declared.Reading.TheVariants.{Good}
+use Rattle.tx3g_sample.specs.Reading.{Good}
 use Rattle.tx3g_sample.specs.Sample.{fonts_in, read_sample}
 use Rattle.tx3g_sample.proofs.Laws.{read-good, records-fine}
 use Rattle.tx3g_style.specs.Style.{holds_at, holds, styles_of}

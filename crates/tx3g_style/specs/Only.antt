@@ -1,8 +1,8 @@
 -- At most one style holds a character. Proved in proofs/Only.antt.
 use Rattle.std.specs.Prelude.{ℕ, ◌<◌, ◌≡◌, List, true}
 use Rattle.fields.specs.BigEndian.{be}
-use Rattle.bodies.specs.declared.Body.TheVariants.{At}
-use Rattle.tx3g_sample.specs.declared.Reading.TheVariants.{Good}
+use Rattle.bodies.specs.Body.{At}
+use Rattle.tx3g_sample.specs.Reading.{Good}
 use Rattle.tx3g_sample.specs.Sample.{read_sample}
 use Rattle.tx3g_style.specs.Style.{holds, styles_of}
 

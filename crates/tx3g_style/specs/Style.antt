@@ -3,22 +3,18 @@ use Rattle.std.specs.Prelude.{ℕ, ◌+◌, List, Bool, ltb, leb, length}
 use Rattle.std.proofs.Math.Option.{Option, none, some}
 use Rattle.base.specs.Choice.{pick, both}
 use Rattle.base.specs.First.{first}
-use Rattle.verdict.specs.declared.Verdict.{Verdict}
-use Rattle.verdict.specs.declared.Verdict.TheVariants.{Fine, Refused}
+use Rattle.verdict.specs.Verdict.{Verdict, Fine, Refused}
 use Rattle.verdict.specs.Judgement.{fault}
 use Rattle.fields.specs.BigEndian.{be}
 use Rattle.boxes.specs.Boxes.{boxes_in}
-use Rattle.bodies.specs.declared.Body.{Body}
-use Rattle.bodies.specs.declared.Body.TheVariants.{At, Refused as Stopped, Nowhere}
+use Rattle.bodies.specs.Body.{Body, At, Refused as Stopped, Nowhere}
 use Rattle.bodies.specs.Bodies.{body_of}
 use Rattle.tx3g_contents.specs.Kinds.{styl}
 use Rattle.tx3g_rules.specs.Rules.{style_at}
-use Rattle.tx3g_sample.specs.declared.Reading.{Reading}
-use Rattle.tx3g_sample.specs.declared.Reading.TheVariants.{Good, BadEntry as EntryRefused, BadSample as SampleRefused}
+use Rattle.tx3g_sample.specs.Reading.{Reading, Good, BadEntry as EntryRefused, BadSample as SampleRefused}
 use Rattle.tx3g_sample.specs.Sample.{text_end, read_sample}
 use Rattle.tx3g_style.specs.declared.Style.{Style}
-use Rattle.tx3g_style.specs.declared.Styled.{Styled}
-use Rattle.tx3g_style.specs.declared.Styled.TheVariants.{Found, BadEntry, BadSample}
+use Rattle.tx3g_style.specs.Styled.{Styled, Found, BadEntry, BadSample}
 
 -- the style whose 12 bytes stand at q: start, end, font ID (2 each), face flags, size (1 each), RGBA (4)
 unfoldable pub style_in : List ℕ → ℕ → Style

@@ -4,6 +4,7 @@ use mathlib.Core.Path.{◌≡◌, refl, sym, ap, ap₂, ◌∙◌}
 use mathlib.Core.Bool.{Bool, true, false, not}
 use mathlib.Core.List.{List, [], ◌∷◌}
 use native.Mathlib.Omega.{arith}
+use mir.Val.{bool_byte}
 use lib.Bits.{bit_and, bit_or}
 use lib.Dec.{eqb}
 use lib.ListN.{length, get_or, get_or-eq_default}
@@ -13,6 +14,11 @@ use Rattle.base.proofs.Tests.{both_yes}
 use Rattle.ascii.proofs.Blocks.{or-none, mark-none}
 use Rattle.utf8.specs.Strings.{CR, LF}
 use Rattle.tx3g_tidy.specs.Tidy.{stays, stay_first, tidy}
+
+-- a test as a number
+pub one-if : (t : Bool) → bool_byte t ≡ pick t 1 0
+one-if true = refl
+one-if false = refl
 
 neither : (a b : Bool) → both (not a) (not b) ≡ not (any_of a b)
 neither true b = refl

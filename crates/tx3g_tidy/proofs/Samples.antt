@@ -10,14 +10,14 @@ use lib.ListN.{length, take, drop, get_or, length-take, length-drop}
 use Rattle.base.specs.Choice.{pick}
 use Rattle.base.proofs.Choice.{both_left, both_right, by-test, either, true-false}
 use Rattle.fields.proofs.BigEndian.{be-fits}
-use Rattle.verdict.specs.declared.Verdict.TheVariants.{Fine}
+use Rattle.verdict.specs.Verdict.{Fine}
 use Rattle.boxes.specs.Boxes.{part}
 use Rattle.utf8.specs.Strings.{starts_with}
 use Rattle.text.specs.Rules.{payload_text}
 use Rattle.characters.specs.Characters.{mark, firsts}
 use Rattle.code_points.specs.CodePoints.{encode, joined}
 use Rattle.tx3g_entry.specs.Entry.{judge_entry}
-use Rattle.tx3g_sample.specs.declared.Reading.TheVariants.{Good}
+use Rattle.tx3g_sample.specs.Reading.{Good}
 use Rattle.tx3g_sample.specs.Sample.{text_end, characters_in, judge_text, judge_sample, read_sample}
 use Rattle.tx3g_sample.proofs.Laws.{text-fine, count_past, read-good}
 use Rattle.tx3g_read.specs.declared.Text.{Text}

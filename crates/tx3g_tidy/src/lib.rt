@@ -5,12 +5,12 @@
 ghost use Rattle.std.specs.Prelude.{◌≡◌, true, false, not, [], ◌++◌, ◌+◌, ◌-◌, ◌*◌, ◌≤◌, eqb, length};
 ghost use Rattle.base.specs.Choice.{pick};
 ghost use Rattle.base.specs.Over.{over, wrote};
-ghost use Rattle.verdict.specs.declared.Verdict.TheVariants.{Fine};
+ghost use Rattle.verdict.specs.Verdict.{Fine};
 ghost use Rattle.boxes.specs.Boxes.{part};
 ghost use Rattle.characters.specs.Characters.{firsts};
 ghost use Rattle.code_points.specs.CodePoints.{joined};
 ghost use Rattle.tx3g_entry.specs.Entry.{judge_entry};
-ghost use Rattle.tx3g_sample.specs.declared.Reading.TheVariants.{Good};
+ghost use Rattle.tx3g_sample.specs.Reading.{Good};
 ghost use Rattle.tx3g_sample.specs.Sample.{characters_in, judge_text, judge_sample, read_sample};
 ghost use Rattle.tx3g_payload.specs.Payload.{escape};
 ghost use Rattle.tx3g_payload_write.specs.Sample.{characters_at, payload_in};
@@ -29,10 +29,7 @@ use wvtt_write::copy_run;
 fn mark_for(c: u8, b: u8) -> u8
     ensures { result ≡ pick (eqb b c) 1 0 }
 {
-    if b == c {
-        return 1;
-    }
-    0
+    u8::from(b == c)
 }
 
 // Not 0 for a byte that a tidy text does not have in front of `next`. The tests are joined, so that the compiler takes wide steps.
@@ -46,15 +43,13 @@ fn untidy_mark(b: u8, next: u8) -> u8
 fn is_tidy(text: &[u8]) -> bool
     ensures { result ≡ tidy text.now }
 {
-    if text.len() == 0 {
+    if text.is_empty() {
         return false;
     }
     let last = text.len() - 1;
     let mut x = mark_for(0x0A, text[0]);
-    let mut i = 0;
-    while i < last {
-        x = x | untidy_mark(text[i], text[i + 1]);
-        i += 1;
+    for i in 0..last {
+        x |= untidy_mark(text[i], text[i + 1]);
     }
     let end = untidy_mark(text[last], 0x0A);
     (x | end) == 0
@@ -65,9 +60,10 @@ fn count_utf8(text: &[u8]) -> usize
     ensures { result ≡ firsts text.now }
 {
     if is_ascii(text) {
-        return text.len();
+        text.len()
+    } else {
+        count_firsts(text)
     }
-    count_firsts(text)
 }
 
 // The characters of a sample's text, if it is tidy; else 0.
@@ -77,10 +73,7 @@ fn count_tidy(s: &[u8]) -> usize
 {
     let t = find_text(s);
     let end = t.end;
-    if t.utf16 {
-        return 0;
-    }
-    if !is_tidy(&s[2..end]) {
+    if t.utf16 || !is_tidy(&s[2..end]) {
         return 0;
     }
     count_utf8(&s[2..end])
@@ -98,12 +91,10 @@ fn has_escapes(text: &[u8]) -> bool
     ensures { result ≡ not (eqb (extras text.now) 0) }
 {
     let mut x = 0;
-    let mut i = 0;
-    while i < text.len() {
-        x = x | escape_mark(text[i]);
-        i += 1;
+    for &b in text {
+        x |= escape_mark(b);
     }
-    !(x == 0)
+    x != 0
 }
 
 // The bytes that an escaped byte takes more than itself.
@@ -119,10 +110,8 @@ fn extras_of(text: &[u8]) -> usize
     ensures { (result ≡ extras text.now) × (result ≤ 262140) }
 {
     let mut n = 0;
-    let mut i = 0;
-    while i < text.len() {
-        n += extra_of(text[i]);
-        i += 1;
+    for &b in text {
+        n += extra_of(b);
     }
     n as usize
 }
@@ -132,10 +121,11 @@ fn escapes_length(text: &[u8]) -> usize
     requires { length text.now ≤ 65535 }
     ensures { (result ≡ extras text.now) × (result ≤ 262140) }
 {
-    if !has_escapes(text) {
-        return 0;
+    if has_escapes(text) {
+        extras_of(text)
+    } else {
+        0
     }
-    extras_of(text)
 }
 
 // The bytes of the tags of a face and of their end tags: seven for each flag.
@@ -184,10 +174,8 @@ fn pass_characters(text: &[u8], from: usize, count: usize) -> usize
     ensures { Behind text.now from count result }
 {
     let mut at = from;
-    let mut left = count;
-    while left > 0 {
+    for _passed in 0..count {
         at = utf8_at(text, at).next;
-        left -= 1;
     }
     at
 }
@@ -198,9 +186,10 @@ fn end_of(text: &[u8], single: bool, from: usize, count: usize) -> usize
     ensures { Behind text.now from count result }
 {
     if single {
-        return from + count;
+        from + count
+    } else {
+        pass_characters(text, from, count)
     }
-    pass_characters(text, from, count)
 }
 
 // A place from `from` to `end` up to which no byte is escaped, by eights.
@@ -208,15 +197,14 @@ fn pass_plain(text: &[u8], from: usize, end: usize) -> usize
     requires { (from ≤ end) × (end ≤ length text.now) }
     ensures { (from ≤ result) × (result ≤ end) × (extras (part text.now from result) ≡ 0) }
 {
-    let mut i = from;
-    while 8 <= end - i {
-        let next = i + 8;
-        if has_escapes(&text[i..next]) {
-            return i;
+    let eights = (end - from) / 8;
+    for k in 0..eights {
+        let at = from + k * 8;
+        if has_escapes(&text[at..at + 8]) {
+            return at;
         }
-        i = next;
     }
-    i
+    from + eights * 8
 }
 
 // The first place from `from` to `end` whose byte is escaped; `end` where there is none.
@@ -224,14 +212,13 @@ fn plain_end(text: &[u8], from: usize, end: usize) -> usize
     requires { (from ≤ end) × (end ≤ length text.now) }
     ensures { PlainTo text.now from end result }
 {
-    let mut i = pass_plain(text, from, end);
-    while i < end {
+    let first = pass_plain(text, from, end);
+    for i in first..end {
         if escape_mark(text[i]) > 0 {
             return i;
         }
-        i += 1;
     }
-    i
+    end
 }
 
 // The text from `from` to `end`, escaped. Gives the place behind it.

@@ -1,6 +1,7 @@
 -- Laws for unpacking: the rows are ready, the last judgements, and the answer stage by stage.
+use Rattle.std.proofs.Common.{Ok}
 use Prim.Native.Nat.{ℕ, zero, suc, ◌*◌, ◌≤◌, ◌<◌}
-use mathlib.Core.Path.{◌≡◌, refl, sym, ap, ◌∙◌, subst, subst⁻¹}
+use mathlib.Core.Path.{◌≡◌, refl, sym, ap, ◌∙◌, subst}
 use mathlib.Core.Bool.{Bool, true, false, not}
 use mathlib.Core.List.{List, [], ◌∷◌, Memᴰ}
 use native.Mathlib.Omega.{arith}
@@ -11,8 +12,7 @@ use borrow.Author.Tests.{ltb-false, not-false, lt-ltb, le-ltb}
 use Rattle.base.specs.Choice.{any_of}
 use Rattle.base.proofs.Choice.{either}
 use Rattle.verdict.specs.declared.Refusal.{Refusal}
-use Rattle.verdict.specs.declared.Verdict.{Verdict}
-use Rattle.verdict.specs.declared.Verdict.TheVariants.{Fine, Refused}
+use Rattle.verdict.specs.Verdict.{Verdict, Fine, Refused}
 use Rattle.verdict.specs.Judgement.{fault, refuse, ◌gives◌at◌, each}
 use Rattle.verdict.proofs.Judgement.{both-fine, not-given, each-fine}
 use Rattle.times.specs.Times.{back, scale_allowed, timeline_allowed, Limits}
@@ -36,11 +36,11 @@ use Rattle.records_write.specs.Records.{records_to, pool_to, records_of, pool_of
 use Rattle.unpack_write.specs.Rows.{Ready, InTime, size_to}
 use Rattle.records_write.proofs.Laws.{length-records}
 use Rattle.unpack_write.proofs.Laws.{LengthsOf, lengths-of, length-pool}
-use Rattle.unpack.specs.declared.Unpacked.{Unpacked}
-use Rattle.unpack.specs.declared.Unpacked.TheVariants.{Done, Refused as Stopped}
-use Rattle.unpack.specs.declared.Listed.{Listed}
+use Rattle.unpack.specs.Unpacked.{Unpacked, Done, Refused as Stopped}
 use Rattle.unpack.specs.Unpacking.{track_cues, track_ms, bad_times, judge_times, judge_end, judge_unpack, answer_by, done_with, unpack_room, roomed, unpack_of, out_of}
-use Rattle.unpack.specs.Rows.{row_times, end_of, rows_room, refused_by, Measurable, RowsReady, RowsOf, ReadAs}
+use Rattle.unpack.specs.Rows.{row_times, end_of, rows_room, Measurable, RowsReady, RowsOf, ReadAs}
+use Rattle.gather.specs.Gathered.{Gathered, All, Fault}
+use Rattle.gather.specs.Gathering.{unpacked_of, Complete}
 use Rattle.unpack.proofs.Kept.{EachCue, EachBody, unpack-keeps}
 
 -- ---- the cues of a track without fault are sound
@@ -164,6 +164,15 @@ end-fine scale tab n T e =
       limits = timeline-limits scale T (not-false (timeline_allowed scale T) (not-given (not (timeline_allowed scale T)) 10 n a.1));
     }
 
+-- answers that are the same have the same lengths
+abbrev records_in : Unpacked → ℕ
+records_in (Ok x) = x.records
+records_in (Stopped r) = 0
+
+abbrev pool_in : Unpacked → ℕ
+pool_in (Ok x) = x.pool
+pool_in (Stopped r) = 0
+
 -- a room with lengths: nothing is at fault, and the lengths are those of the rows
 pub room-fine : (scale : ℕ) (tab : List ℕ) (n T : ℕ) (u : Unpacked) (x y z : ℕ) → u ≡ rows_room scale tab n T → u ≡ Done x y z
     → Ended scale tab n T × (x ≡ n * 24) × (y ≡ size_to tab n)
@@ -174,7 +183,7 @@ room-fine scale tab n T u x y z e q = go (end_of scale tab n T) refl
     apart r k = cc
 
     same : rows_room scale tab n T ≡ Done (n * 24) (size_to tab n) T → (x ≡ n * 24) × (y ≡ size_to tab n)
-    same k = ((cc), (cc))
+    same k = let d = sym q ∙ e ∙ k in (ap records_in d, ap pool_in d)
 
     go : (v : Verdict) → end_of scale tab n T ≡ v → Ended scale tab n T × (x ≡ n * 24) × (y ≡ size_to tab n)
     go (Refused r) f = absurd (omega (arith, apart r (ap (λ (v : Verdict). answer_by v (Done (n * 24) (size_to tab n) T)) f)))
@@ -190,12 +199,12 @@ room_fits a b n p t h k = rw (le-ltb a n h, le-ltb b p k)
 
 pub room-done : (a b : ℕ) (u : Unpacked) (n p t : ℕ) → roomed a b u ≡ Done n p t → u ≡ Done n p t
 room-done a b (Stopped r) n p t e = e
-room-done a b (Done x y z) n p t e =
-    either x a
-    (λ h. either y b (λ k. sym (room_fits a b x y z h k) ∙ e) (λ k. let q : roomed a b (Done x y z) ≡ Stopped (fault 15 1) = rw (le-ltb a x h, lt-ltb b y k) in absurd (apart _ q)))
-    (λ h. let q : roomed a b (Done x y z) ≡ Stopped (fault 15 0) = rw (lt-ltb a x h) in absurd (apart _ q))
+room-done a b (Ok w) n p t e =
+    either w.records a
+    (λ h. either w.pool b (λ k. sym (room_fits a b w.records w.pool w.t h k) ∙ e) (λ k. let q : roomed a b (Done w.records w.pool w.t) ≡ Stopped (fault 15 1) = rw (le-ltb a w.records h, lt-ltb b w.pool k) in absurd (apart _ q)))
+    (λ h. let q : roomed a b (Done w.records w.pool w.t) ≡ Stopped (fault 15 0) = rw (lt-ltb a w.records h) in absurd (apart _ q))
   where
-    apart : (r : Refusal) → roomed a b (Done x y z) ≡ Stopped r → ⊥
+    apart : (r : Refusal) → roomed a b (Done w.records w.pool w.t) ≡ Stopped r → ⊥
     apart r q = let k : ◌≡◌ {A = ℕ} 0 1 = cc in omega arith
 
 pub ready-measurable : (scale : ℕ) (samples tab : List ℕ) (n sum : ℕ) → RowsReady scale samples tab n sum → Measurable scale tab n sum
@@ -254,9 +263,11 @@ module _ (scale : ℕ) (table samples : List ℕ) where
                 ∙ list_done (known samples tab n) e;
           }
 
-pub read-refused : (scale : ℕ) (table samples tab : List ℕ) (l : Listed) (v : Verdict) (r : Refusal) → l ≡ refused_by v → v ≡ Refused r
-    → Stopped r ≡ unpack_room scale table samples → ReadAs scale table samples tab l
-read-refused scale table samples tab l v r e t h = subst⁻¹ (ReadAs scale table samples tab) (e ∙ ap refused_by t) h
+-- what was gathered is what unpacking reads
+pub read-done : (scale : ℕ) (table samples : List ℕ) → scale_allowed scale ≡ true → judge_track table samples ≡ Fine → (tab : List ℕ) (g : Gathered) → 9216 ≤ length tab
+    → unpacked_of samples tab g ≡ unpack (track_of table samples) → Complete table samples tab g → ReadAs scale table samples tab g
+read-done scale table samples ok fine tab (All n t) l e w = rows_are scale table samples ok fine tab n t (omega (arith, w.0, l)) w.0 w.1 w.2 w.3 e
+read-done scale table samples ok fine tab (Fault r) l e w = ap Stopped w ∙ list-stopped scale table samples ok fine r.number r.place e
 
 module _ (scale : ℕ) (table samples tab : List ℕ) (n sum : ℕ) (w : RowsOf scale table samples tab n sum) where
   -- the room for the rows is that of the track, and so is the answer

@@ -1,2 +1,3 @@
+pub mod Unpacked
 pub mod Unpacking
 pub mod Rows

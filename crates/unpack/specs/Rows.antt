@@ -1,15 +1,12 @@
 -- Terms of the contracts of private functions: what reading a track gives, and the last judgements, said of the rows of the table.
 use Rattle.std.specs.Prelude.{ℕ, ◌*◌, ◌≤◌, ◌<◌, ◌≡◌, List, not, length}
-use Rattle.verdict.specs.declared.Verdict.{Verdict}
-use Rattle.verdict.specs.declared.Verdict.TheVariants.{Fine, Refused as Faulty}
+use Rattle.verdict.specs.Verdict.{Verdict}
 use Rattle.verdict.specs.Judgement.{◌gives◌at◌, ◌then◌, each}
 use Rattle.times.specs.Times.{back, timeline_allowed}
 use Rattle.rows.specs.Table.{row_at, known}
 use Rattle.unpack_write.specs.Rows.{size_to, Short, Ready}
-use Rattle.unpack.specs.declared.Unpacked.{Unpacked}
-use Rattle.unpack.specs.declared.Unpacked.TheVariants.{Done, Refused}
-use Rattle.unpack.specs.declared.Listed.{Listed}
-use Rattle.unpack.specs.declared.Listed.TheVariants.{Rows, Stopped}
+use Rattle.unpack.specs.Unpacked.{Unpacked, Done, Refused}
+use Rattle.gather.specs.Gathered.{Gathered, All, Fault}
 use Rattle.unpack.specs.Unpacking.{bad_times, track_cues, judge_end, answer_by, done_with, unpack_room}
 
 unfoldable pub row_times : ℕ → List ℕ → ℕ → Verdict
@@ -23,11 +20,6 @@ end_of scale tab n T = each (row_times scale tab) n then not (timeline_allowed s
 unfoldable pub rows_room : ℕ → List ℕ → ℕ → ℕ → Unpacked
 unfolding end_of
 rows_room scale tab n T = answer_by (end_of scale tab n T) (Done (n * 24) (size_to tab n) T)
-
--- the refusal of a verdict; one without fault is not asked
-abbrev pub refused_by : Verdict → Listed
-refused_by Fine = Rows 0 0
-refused_by (Faulty r) = Stopped r
 
 -- n rows whose texts and ticks are within their limits, and a sum of durations
 pub record Measurable (scale : ℕ) (tab : List ℕ) (n sum : ℕ) : Type 0 where
@@ -53,6 +45,6 @@ pub record RowsOf (scale : ℕ) (table samples tab : List ℕ) (n sum : ℕ) : T
   pub room : answer_by (judge_end scale (back scale sum) (track_cues table samples)) (done_with scale (back scale sum) (track_cues table samples)) ≡ unpack_room scale table samples
 
 -- what reading a track gives: the rows of its cues, or the refusal that unpacking answers
-abbrev pub ReadAs : ℕ → List ℕ → List ℕ → List ℕ → Listed → Type 0
-ReadAs scale table samples tab (Rows n sum) = RowsOf scale table samples tab n sum
-ReadAs scale table samples tab (Stopped r) = Refused r ≡ unpack_room scale table samples
+abbrev pub ReadAs : ℕ → List ℕ → List ℕ → List ℕ → Gathered → Type 0
+ReadAs scale table samples tab (All n sum) = RowsOf scale table samples tab n sum
+ReadAs scale table samples tab (Fault r) = Refused r ≡ unpack_room scale table samples

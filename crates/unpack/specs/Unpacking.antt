@@ -1,9 +1,9 @@
 -- Unpacking. Document 01, 'Tracks and packing' and 'Numbers given back'.
+use Rattle.std.specs.Prelude.{Ok}
 use Rattle.std.specs.Prelude.{ℕ, Bool, not, List, [], leb, ltb, length, get_or}
 use Rattle.base.specs.Choice.{any_of, pick}
 use Rattle.base.specs.Over.{over}
-use Rattle.verdict.specs.declared.Verdict.{Verdict}
-use Rattle.verdict.specs.declared.Verdict.TheVariants.{Fine, Refused}
+use Rattle.verdict.specs.Verdict.{Verdict, Fine, Refused}
 use Rattle.verdict.specs.Judgement.{fault, refuse, ◌gives◌at◌, ◌then◌, each}
 use Rattle.times.specs.Times.{back, scale_allowed, timeline_allowed}
 use Rattle.timeline.specs.Cues.{Cue}
@@ -11,8 +11,7 @@ use Rattle.timeline.specs.Tracks.{total}
 use Rattle.timeline.specs.Unpacking.{Unpacked as Listing, stopped, done, unpack, no_cue}
 use Rattle.records_write.specs.Records.{records_of, pool_of}
 use Rattle.track.specs.Track.{judge_track, track_of}
-use Rattle.unpack.specs.declared.Unpacked.{Unpacked}
-use Rattle.unpack.specs.declared.Unpacked.TheVariants.{Done, Refused as Stopped}
+use Rattle.unpack.specs.Unpacked.{Unpacked, Done, Refused as Stopped}
 
 -- cue by cue in each sample 17, 12, 13, 14, 11, 9, place the sample
 abbrev pub stops_at : Listing → Verdict
@@ -66,7 +65,7 @@ unpack_room scale table samples = answer_by (judge_unpack scale table samples) (
 
 -- 15: the records do not fit (place 0), the pool does not (place 1)
 abbrev pub roomed : ℕ → ℕ → Unpacked → Unpacked
-roomed records pool (Done n p t) = pick (ltb records n) (Stopped (fault 15 0)) (pick (ltb pool p) (Stopped (fault 15 1)) (Done n p t))
+roomed records pool (Ok x) = pick (ltb records x.records) (Stopped (fault 15 0)) (pick (ltb pool x.pool) (Stopped (fault 15 1)) (Done x.records x.pool x.t))
 roomed records pool (Stopped r) = Stopped r
 
 -- the answer, by the room that there is for records and pool
@@ -76,5 +75,5 @@ unpack_of scale table samples records pool = roomed records pool (unpack_room sc
 
 -- an output: the bytes over its front on success, else as it was
 abbrev pub out_of : Unpacked → List ℕ → List ℕ → List ℕ
-out_of (Done n p t) new old = over new old
+out_of (Ok x) new old = over new old
 out_of (Stopped r) new old = old

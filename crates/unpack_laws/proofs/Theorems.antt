@@ -1,4 +1,5 @@
 -- What unpacking answers: a list without fault; the check accepts it at a scale of 1,000 or less; at a scale of 1,000 or more a packed list comes back.
+use Rattle.std.proofs.Common.{Ok}
 use Prim.Native.Nat.{ℕ, zero, suc, ◌≤◌, ◌<◌}
 use mathlib.Core.Path.{◌≡◌, refl, sym, ap, ap₂, ◌∙◌, subst}
 use mathlib.Core.Logic.{◌≢◌}
@@ -12,8 +13,7 @@ use lib.ListN.{length, get_or, length-take}
 use borrow.Author.Tests.{ltb-false, leb-false, le-ltb, lt-leb, not-false}
 use Rattle.base.specs.Choice.{any_of}
 use Rattle.base.proofs.Choice.{either, both_left}
-use Rattle.verdict.specs.declared.Verdict.{Verdict}
-use Rattle.verdict.specs.declared.Verdict.TheVariants.{Fine, Refused}
+use Rattle.verdict.specs.Verdict.{Verdict, Fine, Refused}
 use Rattle.verdict.specs.Judgement.{◌gives◌at◌, each}
 use Rattle.verdict.proofs.Judgement.{both-fine, not-given, each-fine, each_all}
 use Rattle.times.specs.Times.{tick, back, scale_allowed, timeline_allowed, Limits}
@@ -36,8 +36,7 @@ use Rattle.cues.specs.Judgement.{judge_list}
 use Rattle.cues.specs.List.{body_of, cue_of, cues_of, Sound}
 use Rattle.cues.proofs.Sound.{fine-sound, fine-proper, fine-few, cues-named, length-cues}
 use Rattle.records_write.specs.Records.{id_of, records_of, pool_of}
-use Rattle.unpack.specs.declared.Unpacked.{Unpacked}
-use Rattle.unpack.specs.declared.Unpacked.TheVariants.{Done, Refused as Stopped}
+use Rattle.unpack.specs.Unpacked.{Unpacked, Done, Refused as Stopped}
 use Rattle.unpack.specs.Unpacking.{stops_at, list_in, track_cues, track_ms, bad_times, judge_times, judge_end, judge_unpack, answer_by, done_with, unpack_room, roomed, unpack_of}
 use Rattle.track.proofs.Samples.{track-positive}
 use Rattle.unpack.proofs.Laws.{list-sound, list_done, cues-done, room_fits, room-done}
@@ -105,15 +104,15 @@ success scale table samples a b n p t e =
     }
   where
     time : Unpacked → ℕ
-    time (Done x y z) = z
+    time (Ok w) = w.t
     time (Stopped r) = 0
 
     first : Unpacked → ℕ
-    first (Done x y z) = x
+    first (Ok w) = w.records
     first (Stopped r) = 0
 
     second : Unpacked → ℕ
-    second (Done x y z) = y
+    second (Ok w) = w.pool
     second (Stopped r) = 0
 
 -- a relation of each cue to all later ones, by index

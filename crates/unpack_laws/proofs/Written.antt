@@ -10,7 +10,7 @@ use Rattle.text.specs.Rules.{identifier_text, payload_text}
 use Rattle.times.specs.Times.{tick, back, Limits}
 use Rattle.timeline.specs.Cues.{Cue}
 use Rattle.timeline.specs.Unpacking.{no_cue}
-use Rattle.verdict.specs.declared.Verdict.TheVariants.{Fine}
+use Rattle.verdict.specs.Verdict.{Fine}
 use Rattle.records.specs.Records.{source_id, start_ms}
 use Rattle.cues.specs.Judgement.{judge_list}
 use Rattle.cues.specs.List.{SoundRecord, Sound}

@@ -12,7 +12,7 @@ use Rattle.boxes.specs.Boxes.{part}
 use Rattle.times.specs.Times.{back}
 use Rattle.timeline.specs.Cues.{Body, Cue}
 use Rattle.timeline.specs.Unpacking.{no_cue}
-use Rattle.wvtt_cues.specs.declared.Part.{Part}
+use Rattle.boxes.specs.declared.Part.{Part}
 use Rattle.wvtt_cues.specs.Cues.{text_of}
 use Rattle.wvtt_cues.specs.Walk.{Within}
 use Rattle.wvtt_write.proofs.Laws.{length_part}

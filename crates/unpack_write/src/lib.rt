@@ -9,10 +9,10 @@ ghost use Rattle.rows.specs.Table.{row_at, cue_at, known};
 ghost use Rattle.records_write.specs.Records.{record_of, texts_of, records_to, pool_to};
 ghost use Rattle.unpack_write.specs.Rows.{Short, Ready, InTime, row_size, size_to};
 
+use boxes::Part;
 use records_write::put_cue;
 use rows::{Row, row_at};
 use times::ms_of;
-use wvtt_cues::Part;
 
 // The bytes of a row's texts.
 fn row_size(row: Row) -> usize
@@ -31,11 +31,8 @@ pub fn pool_size(tab: &[usize], n: usize) -> usize
     ensures { (result ≡ size_to tab.now n) × (result ≤ n * 4605) }
 {
     let mut size = 0;
-    let mut i = 0;
-    while i < n {
-        let row = row_at(tab, i);
-        size += row_size(row);
-        i += 1;
+    for i in 0..n {
+        size += row_size(row_at(tab, i));
     }
     size
 }
@@ -45,9 +42,7 @@ fn text_in(samples: &[u8], p: Part) -> &[u8]
     requires { Within (length samples.now) p }
     ensures { result.now ≡ text_of samples.now p }
 {
-    let from = p.from;
-    let end = p.end;
-    &samples[from..end]
+    &samples[p.from..p.end]
 }
 
 // The record of a row, and its texts to `at` in the pool; gives the place behind them.
@@ -95,10 +90,8 @@ pub fn put_rows(
     ensures { (records.new ≡ over (records_to scale (known samples.now tab.now n) n) records.old) × (pool.new ≡ over (pool_to (known samples.now tab.now n) n) pool.old) }
 {
     let mut at = 0;
-    let mut i = 0;
-    while i < n {
+    for i in 0..n {
         let row = row_at(tab, i);
         at = write_row(scale, samples, row, &mut *records, i, &mut *pool, at);
-        i += 1;
     }
 }

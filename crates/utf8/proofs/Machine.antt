@@ -21,8 +21,7 @@ use Rattle.utf8.specs.Utf8.{Range, utf8, judge, begun, class_of}
 use Rattle.utf8.specs.Strings.{CR, LF, GREATER, starts_with_any, has_any}
 use Rattle.utf8.specs.Forbidden.{forbidden, keeps, keeps_begun}
 use Rattle.utf8.specs.Machine.{ends_forbidden, word_table, next, before, step, run, PassedIs, plain, PlainRun, RunWhole}
-use Rattle.utf8.specs.declared.Passed.{Passed}
-use Rattle.utf8.specs.declared.Passed.TheVariants.{To, Bad as Stop}
+use Rattle.utf8.specs.Passed.{Passed, To, Bad as Stop}
 use Rattle.utf8.specs.declared.Rule.{Rule}
 use Rattle.utf8.specs.declared.Rule.TheVariants.{Any, Line, Payload}
 use Rattle.utf8.proofs.Ranges.{inside}
@@ -32,7 +31,7 @@ use Rattle.utf8.proofs.Windows.{windows-start, windows-ended, windows-turn, othe
 use Rattle.utf8.proofs.Keeps.{keeps-clean, begun-no-utf8, begun-found, begun-clean, any-is}
 use Rattle.utf8.proofs.Begun.{keeps-begun, not-begun}
 use Rattle.viable.proofs.FirstBad.{closed, stops-here, stops_end, judged-bad}
-use Rattle.viable.specs.declared.Judged.TheVariants.{Bad}
+use Rattle.viable.specs.Judged.{Bad}
 use Rattle.viable.specs.FirstBad.{stops_at, judged_by}
 
 -- the two bytes before, one place on
@@ -83,6 +82,13 @@ unfolding plain
 unmarked-plain Any s i n h = sym (all_ascii s i n h)
 unmarked-plain Line s i n h = sym h
 unmarked-plain Payload s i n h = sym h
+
+-- under a rule that forbids strings, plain bytes are the unmarked ones
+pub plain-rest : (rule : Rule) → (rule ≡ Any → ⊥) → (s : List ℕ) (i n : ℕ) → all (unmarked GREATER) s i n ≡ all (plain rule) s i n
+unfolding plain
+plain-rest Any h s i n = absurd (h refl)
+plain-rest Line h s i n = refl
+plain-rest Payload h s i n = refl
 
 no_end : (p q b : ℕ) → ends_forbidden [] p q b ≡ false
 unfolding ends_forbidden starts_with_any

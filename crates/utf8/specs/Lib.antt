@@ -1,3 +1,4 @@
+pub mod Passed
 pub mod Utf8
 pub mod Strings
 pub mod Forbidden

@@ -7,8 +7,7 @@ use Rattle.ascii.specs.Ascii.{ascii, unmarked, all}
 use Rattle.utf8.specs.Utf8.{class_of}
 use Rattle.utf8.specs.Strings.{GREATER, starts_with_any}
 use Rattle.utf8.specs.Forbidden.{forbidden, keeps}
-use Rattle.utf8.specs.declared.Passed.{Passed}
-use Rattle.utf8.specs.declared.Passed.TheVariants.{To, Bad}
+use Rattle.utf8.specs.Passed.{Passed, To, Bad}
 use Rattle.utf8.specs.declared.Rule.{Rule}
 use Rattle.utf8.specs.declared.Rule.TheVariants.{Any, Line, Payload}
 

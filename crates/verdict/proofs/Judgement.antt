@@ -6,13 +6,11 @@ use native.Mathlib.Omega.{arith}
 use native.Mathlib.Nat.{add-zero, add-suc}
 use native.Mathlib.Numerals.{add-one}
 use Rattle.verdict.specs.declared.Refusal.{Refusal}
-use Rattle.verdict.specs.declared.Verdict.{Verdict}
-use Rattle.verdict.specs.declared.Verdict.TheVariants.{Fine, Refused}
+use Rattle.verdict.specs.Verdict.{Verdict, Fine, Refused}
 use mathlib.Core.List.{List}
 use Rattle.viable.specs.FirstBad.{judged_by}
 use Rattle.viable.proofs.FirstBad.{judged-right, when-right}
-use Rattle.viable.specs.declared.Judged.{Judged}
-use Rattle.viable.specs.declared.Judged.TheVariants.{Right, Bad}
+use Rattle.viable.specs.Judged.{Judged, Right, Bad}
 use Rattle.verdict.specs.Judgement.{◌gives◌at◌, text_at, ◌then◌, each}
 
 pub then-fine : (v w : Verdict) → v ≡ Fine → v then w ≡ w

@@ -11,8 +11,7 @@ use lib.ListN.{length, take, drop, take-append-drop}
 use Rattle.base.specs.Choice.{pick}
 use Rattle.base.proofs.Choice.{both_left, both_right, by-test, true-false, either}
 use Rattle.viable.specs.FirstBad.{bytes, Continues, FirstBad, Passes, stops_at, judged_by, Judges, JudgedIs}
-use Rattle.viable.specs.declared.Judged.{Judged}
-use Rattle.viable.specs.declared.Judged.TheVariants.{Right, Bad}
+use Rattle.viable.specs.Judged.{Judged, Right, Bad}
 
 -- `begun` passes exactly the beginnings of the texts that pass `keeps`
 pub record Beginnings (keeps begun : List ℕ → Bool) : Type 0 where

@@ -1,8 +1,7 @@
 -- Where a text is bad: the first byte after which no continuation keeps the rule. Document 02, K2.
 use Rattle.std.specs.Prelude.{ℕ, suc, ◌<◌, ◌≤◌, ◌≡◌, ◌⊎◌, ◌↔◌, Bool, true, false, List, [], ◌∷◌, ◌++◌, ltb, length, take}
 use Rattle.base.specs.Choice.{pick, both}
-use Rattle.viable.specs.declared.Judged.{Judged}
-use Rattle.viable.specs.declared.Judged.TheVariants.{Right, Bad}
+use Rattle.viable.specs.Judged.{Judged, Right, Bad}
 
 -- each number is a byte
 unfoldable pub bytes : List ℕ → Bool

@@ -2,10 +2,4 @@
 // still become a right text.
 #![tactic(auto)]
 
-#[derive(Clone, Copy)]
-pub enum Judged {
-    // The text keeps its rule.
-    Right,
-    // The first byte after which no continuation keeps it; the length of a text that ends too early.
-    Bad(usize),
-}
+pub type Judged = Result<(), usize>;

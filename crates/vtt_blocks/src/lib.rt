@@ -8,7 +8,7 @@ ghost use Rattle.vtt_blocks.specs.Found.{text_in, TimedIs, PlainIs, FoundIs};
 
 use text::agreeing;
 use vtt_lines::{holds_arrow, line_from, pass_lines};
-use vtt_timing::{Answer, is_blank, is_blank_from, read_timing};
+use vtt_timing::{is_blank, is_blank_from, read_timing};
 
 // A cue: where its identifier ends, which begins at the block; its times in milliseconds, at most 360,000,000; where its settings stand; the number of its timing
 // line, and where the line behind that begins.
@@ -76,21 +76,16 @@ fn find_cue(
     ensures { TimedIs s.now identifier from end line payload result }
 {
     match read_timing(&s[from..end]) {
-        Answer::Times {
-            start,
-            end: last,
-            from: a,
-            to: b,
-        } => Found::Cue(Place {
+        Some(times) => Found::Cue(Place {
             identifier,
-            start,
-            end: last,
-            from: from + a,
-            to: from + b,
+            start: times.start,
+            end: times.end,
+            from: from + times.from,
+            to: from + times.to,
             line,
             payload,
         }),
-        Answer::Malformed => Found::Untimed { line },
+        None => Found::Untimed { line },
     }
 }
 

@@ -9,7 +9,7 @@ use borrow.Author.Tests.{not-true}
 use lib.Dec.{leb}
 use Rattle.base.specs.Choice.{pick, both, any_of}
 use Rattle.base.proofs.Choice.{both_right}
-use Rattle.verdict.specs.declared.Verdict.TheVariants.{Fine}
+use Rattle.verdict.specs.Verdict.{Fine}
 use Rattle.verdict.specs.Judgement.{◌gives◌at◌, ◌then◌}
 use Rattle.verdict.proofs.Judgement.{both-fine}
 use Rattle.cues.specs.Caption.{Caption, caption, judge_caption}

@@ -11,7 +11,7 @@ use lib.ListN.{length, drop, get_or}
 use lib.Seq.{drop-drop, get_or-drop}
 use Rattle.base.proofs.Choice.{by-test}
 use Rattle.base.proofs.Tests.{one-of-second}
-use Rattle.verdict.specs.declared.Verdict.TheVariants.{Fine}
+use Rattle.verdict.specs.Verdict.{Fine}
 use Rattle.verdict.specs.Judgement.{◌gives◌at◌}
 use Rattle.verdict.proofs.Judgement.{both-fine, not-given}
 use Rattle.text.specs.Rules.{webvtt}

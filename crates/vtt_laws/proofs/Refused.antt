@@ -10,12 +10,10 @@ use lib.Dec.{leb, ltb}
 use lib.ListN.{length, drop, get_or, length-drop}
 use Rattle.base.specs.Choice.{pick, both, any_of}
 use Rattle.base.proofs.Choice.{by-test, true-false}
-use Rattle.viable.specs.declared.Judged.{Judged}
-use Rattle.viable.specs.declared.Judged.TheVariants.{Right, Bad}
+use Rattle.viable.specs.Judged.{Judged, Right, Bad}
 use Rattle.viable.specs.FirstBad.{judged_by}
 use Rattle.verdict.specs.declared.Refusal.{Refusal}
-use Rattle.verdict.specs.declared.Verdict.{Verdict}
-use Rattle.verdict.specs.declared.Verdict.TheVariants.{Fine, Refused}
+use Rattle.verdict.specs.Verdict.{Verdict, Fine, Refused}
 use Rattle.verdict.specs.Judgement.{fault, bad_text, ◌gives◌at◌, text_at, ◌then◌}
 use Rattle.text.specs.Rules.{identifier_text, payload_text}
 use Rattle.text.specs.Beginnings.{identifier_begun, payload_begun}

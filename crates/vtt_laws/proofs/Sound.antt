@@ -7,7 +7,7 @@ use native.Mathlib.Omega.{arith}
 use borrow.Author.Tests.{leb-false}
 use lib.Dec.{leb}
 use lib.ListN.{length}
-use Rattle.verdict.specs.declared.Verdict.TheVariants.{Fine}
+use Rattle.verdict.specs.Verdict.{Fine}
 use Rattle.verdict.specs.Judgement.{◌gives◌at◌, ◌then◌}
 use Rattle.verdict.proofs.Judgement.{both-fine, not-given}
 use Rattle.cues.specs.Caption.{Caption, judge_caption, SoundCaption}

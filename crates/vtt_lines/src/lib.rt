@@ -43,13 +43,11 @@ pub struct Gathered {
 }
 
 // 1 for the bytes up to CR, of which LF is one, else 0. One comparison, so that the compiler takes eight bytes at once.
+#[tactic(auto, unfolding(crate::specs::Cursor::low))]
 fn low_mark(b: u8) -> u8
     ensures { result ≡ pick (low b) 1 0 }
 {
-    if b <= b'\r' {
-        return 1;
-    }
-    0
+    u8::from(b <= b'\r')
 }
 
 // Whether there are eight bytes from i on and each is past CR, so that none ends a line.
@@ -61,10 +59,8 @@ fn is_inside8(s: &[u8], i: usize) -> bool
         return false;
     }
     let mut x = 0;
-    let mut k = 0;
-    while k < 8 {
-        x = x | low_mark(s[i + k]);
-        k += 1;
+    for k in 0..8 {
+        x |= low_mark(s[i + k]);
     }
     x == 0
 }
@@ -75,6 +71,7 @@ fn pass_inside(s: &[u8], at: usize) -> usize
     ensures { (end_at s.now result ≡ end_at s.now at) × (result ≤ length s.now) }
 {
     let mut i = at;
+    // By eights while a test on the next eight holds: no iterator steps so.
     while is_inside8(s, i) {
         i += 8;
     }
@@ -96,14 +93,13 @@ fn end_of(s: &[u8], at: usize) -> usize
     requires { at ≤ length s.now }
     ensures { (result ≡ end_at s.now at) × (result ≤ length s.now) }
 {
-    let mut i = pass_inside(s, at);
-    while i < s.len() {
+    let from = pass_inside(s, at);
+    for i in from..s.len() {
         if is_line_end(s[i]) {
             return i;
         }
-        i += 1;
     }
-    i
+    s.len()
 }
 
 // The place behind a line's end: one byte, two of CR LF, none at the text's end.
@@ -146,9 +142,7 @@ pub fn next_line(c: &mut Cursor, s: &[u8]) -> usize
     requires { (c.old.at ≤ length s.now) × (c.old.line ≤ c.old.at + 1) }
     ensures { (result ≡ end_at s.now c.old.at) × (c.new ≡ moved_on s.now c.old) }
 {
-    let at = c.at;
-    let line = c.line;
-    let l = line_at(s, at, line);
+    let l = line_at(s, c.at, c.line);
     c.at = l.next;
     c.line = l.number;
     l.end
@@ -173,23 +167,14 @@ pub fn is_arrow(s: &[u8], i: usize) -> bool
     requires { i + 2 < length s.now }
     ensures { result ≡ starts_with arrow (drop i s.now) }
 {
-    if s[i + 2] != b'>' {
-        return false;
-    }
-    if s[i + 1] != b'-' {
-        return false;
-    }
-    s[i] == b'-'
+    s[i + 2] == b'>' && (s[i + 1] == b'-' && s[i] == b'-')
 }
 
 // Whether `-->` stands where a timing line with hours has it.
 fn is_usual(line: &[u8]) -> bool
     ensures { result ≡ true → holds_arrow line.now ≡ true }
 {
-    if line.len() < 16 {
-        return false;
-    }
-    is_arrow(line, 13)
+    line.len() >= 16 && is_arrow(line, 13)
 }
 
 // Whether `-->` stands in the line.
@@ -199,12 +184,10 @@ pub fn holds_arrow(line: &[u8]) -> bool
     if is_usual(line) {
         return true;
     }
-    let mut i = 0;
-    while i + 2 < line.len() {
+    for i in 0..line.len().saturating_sub(2) {
         if is_arrow(line, i) {
             return true;
         }
-        i += 1;
     }
     false
 }
@@ -213,30 +196,21 @@ pub fn holds_arrow(line: &[u8]) -> bool
 fn sees_arrow(seen: bool, line: &[u8]) -> bool
     ensures { result ≡ any_of seen (holds_arrow line.now) }
 {
-    if seen {
-        return true;
-    }
-    holds_arrow(line)
+    seen || holds_arrow(line)
 }
 
 // Whether a line that is not empty begins at `at`.
 pub fn is_filled(s: &[u8], at: usize) -> bool
     ensures { result ≡ begins_filled (drop at s.now) }
 {
-    if s.len() <= at {
-        return false;
-    }
-    !is_line_end(s[at])
+    at < s.len() && !is_line_end(s[at])
 }
 
 // Whether an empty line begins at `at`.
 fn is_empty(s: &[u8], at: usize) -> bool
     ensures { result ≡ begins_empty (drop at s.now) }
 {
-    if s.len() <= at {
-        return false;
-    }
-    is_line_end(s[at])
+    at < s.len() && is_line_end(s[at])
 }
 
 // Passes empty lines.
@@ -283,10 +257,7 @@ fn with_line(n: usize, bytes: usize) -> usize
     requires { n + bytes + 1 < 2 ^ 64 }
     ensures { result ≡ n + length (joint n) + bytes }
 {
-    if n == 0 {
-        return bytes;
-    }
-    n + 1 + bytes
+    if n == 0 { bytes } else { n + 1 + bytes }
 }
 
 // Whether a text of n bytes that stands up to `end` goes on at `at` with a line behind one LF.
@@ -294,16 +265,7 @@ fn goes_on(plain: bool, s: &[u8], n: usize, end: usize, at: usize) -> bool
     requires { (at ≤ length s.now) × (end < 2 ^ 63) }
     ensures { result ≡ true → (plain ≡ true) × JoinedAt s.now n end at }
 {
-    if !plain {
-        return false;
-    }
-    if n == 0 {
-        return true;
-    }
-    if at != end + 1 {
-        return false;
-    }
-    s[end] == b'\n'
+    plain && (n == 0 || (at == end + 1 && s[end] == b'\n'))
 }
 
 // The lines up to an empty one or the end, as they would be joined by one LF.
@@ -358,11 +320,7 @@ fn put_bytes(buf: &mut [u8], n: usize, bytes: &[u8]) -> usize
     if buf.len() < end {
         return end;
     }
-    let mut i = 0;
-    while i < bytes.len() {
-        buf[n + i] = bytes[i];
-        i += 1;
-    }
+    buf[n..end].copy_from_slice(bytes);
     end
 }
 

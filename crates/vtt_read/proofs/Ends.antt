@@ -3,18 +3,17 @@ use Prim.Native.Nat.{ℕ, ◌*◌, ◌≤◌}
 use mathlib.Core.Path.{◌≡◌, refl, sym, ap, ◌∙◌}
 use mathlib.Core.Bool.{false}
 use mathlib.Core.List.{List, []}
+use Rattle.std.proofs.Common.{Ok}
 use native.Mathlib.Omega.{arith}
 use lib.ListN.{length, drop, length-drop}
 use Rattle.verdict.specs.declared.Refusal.{Refusal}
-use Rattle.verdict.specs.declared.Verdict.{Verdict}
-use Rattle.verdict.specs.declared.Verdict.TheVariants.{Fine, Refused}
+use Rattle.verdict.specs.Verdict.{Verdict, Fine, Refused}
 use Rattle.records_write.specs.Records.{records_of, pool_of, pool_to}
 use Rattle.records_write.proofs.Laws.{length-records}
 use Rattle.vtt_lines.specs.Lines.{blocks_from}
 use Rattle.vtt_lines.proofs.Lines.{lines_end}
 use Rattle.vtt_read.specs.declared.State.{State}
-use Rattle.vtt_read.specs.declared.FileRead.{FileRead}
-use Rattle.vtt_read.specs.declared.FileRead.TheVariants.{Done, Refused as Stopped}
+use Rattle.vtt_read.specs.FileRead.{FileRead, Done, Refused as Stopped}
 use Rattle.vtt_read.specs.Reading.{judge_blocks, cues_in, judge_file, file_cues, file_records, file_pool, answer_by, read_room, roomed, read_of, out_of}
 use Rattle.vtt_read.specs.Steps.{list_of, left_of, Stands, Ready}
 use Rattle.vtt_read.proofs.Lists.{length_from}
@@ -57,6 +56,22 @@ pub stays-refused : (s : List ℕ) (x : FileRead) (r : Refusal) → x ≡ read_r
 unfolding read_of
 stays-refused s x r e f = ((λ a b. f ∙ sym (ap (roomed a b) (sym e ∙ f))), (λ new old. sym (ap (λ (y : FileRead). out_of y new old) f)))
 
+-- answers that are the same have the same lengths
+abbrev cues_in_list : FileRead → ℕ
+cues_in_list (Ok x) = x.cues
+cues_in_list (Stopped r) = 0
+
+abbrev records_in_list : FileRead → ℕ
+records_in_list (Ok x) = x.records
+records_in_list (Stopped r) = 0
+
+abbrev pool_in_list : FileRead → ℕ
+pool_in_list (Ok x) = x.pool
+pool_in_list (Stopped r) = 0
+
+pub same_lengths : {n a b m c d : ℕ} → Done n a b ≡ Done m c d → (n ≡ m) × (a ≡ c) × (b ≡ d)
+same_lengths e = (ap cues_in_list e, ap records_in_list e, ap pool_in_list e)
+
 -- an answer says that the file has no fault, and how long its outputs are
 pub done-ready : (s : List ℕ) (n a b : ℕ) → read_room s ≡ Done n a b → (judge_file s ≡ Fine) × (length (file_cues s) ≡ n) × (length (file_records s) ≡ a) × (length (file_pool s) ≡ b)
 unfolding read_room
@@ -64,5 +79,5 @@ done-ready s n a b e = go (judge_file s) refl e
   where
     go : (v : Verdict) → judge_file s ≡ v → answer_by v (Done (length (file_cues s)) (length (file_records s)) (length (file_pool s))) ≡ Done n a b
         → (judge_file s ≡ Fine) × (length (file_cues s) ≡ n) × (length (file_records s) ≡ a) × (length (file_pool s) ≡ b)
-    go Fine f g = (f, cc, cc, cc)
+    go Fine f g = let w = same_lengths g in (f, w.0, w.1, w.2)
     go (Refused r) f g = let z : ◌≡◌ {A = ℕ} 0 1 = cc in absurd (omega (arith, z))

@@ -13,8 +13,7 @@ use Rattle.base.specs.Choice.{pick, any_of}
 use Rattle.base.specs.Over.{over}
 use Rattle.base.proofs.Tests.{one-of-first, one-of-second}
 use Rattle.verdict.specs.declared.Refusal.{Refusal}
-use Rattle.verdict.specs.declared.Verdict.{Verdict}
-use Rattle.verdict.specs.declared.Verdict.TheVariants.{Fine, Refused}
+use Rattle.verdict.specs.Verdict.{Verdict, Fine, Refused}
 use Rattle.verdict.specs.Judgement.{refuse, ◌gives◌at◌, ◌then◌}
 use Rattle.verdict.proofs.Judgement.{both-fine, not-given}
 use Rattle.cues.proofs.Capped.{times-early}

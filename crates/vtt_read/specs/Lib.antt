@@ -1,2 +1,4 @@
+pub mod FileRead
+pub mod Turn
 pub mod Reading
 pub mod Steps

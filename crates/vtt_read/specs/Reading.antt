@@ -1,4 +1,5 @@
 -- Reading a WebVTT file into records and pool. Document 02, K1.
+use Rattle.std.specs.Prelude.{Ok}
 use Rattle.std.specs.Prelude.{ℕ, suc, Bool, true, not, List, [], ◌∷◌, leb, ltb, length, drop}
 use Rattle.std.proofs.Math.Option.{some}
 use Rattle.base.specs.Choice.{pick, any_of}
@@ -7,15 +8,13 @@ use Rattle.utf8.specs.Strings.{starts_with}
 use Rattle.text.specs.Rules.{webvtt}
 use Rattle.times.specs.Times.{tick}
 use Rattle.timeline.specs.Cues.{Cue}
-use Rattle.verdict.specs.declared.Verdict.{Verdict}
-use Rattle.verdict.specs.declared.Verdict.TheVariants.{Fine, Refused as Faulty}
+use Rattle.verdict.specs.Verdict.{Verdict, Fine, Refused as Faulty}
 use Rattle.verdict.specs.Judgement.{fault, refuse, ◌gives◌at◌, ◌then◌}
 use Rattle.cues.specs.Caption.{Caption, judge_caption}
 use Rattle.records_write.specs.Records.{records_of, pool_of}
 use Rattle.vtt_lines.specs.Lines.{Line, lines_of, filled, Block, blocks_from, some_arrow}
 use Rattle.vtt_blocks.specs.Kinds.{Kind, cue, untimed, note, style, other, opens, kind_of}
-use Rattle.vtt_read.specs.declared.FileRead.{FileRead}
-use Rattle.vtt_read.specs.declared.FileRead.TheVariants.{Done, Refused}
+use Rattle.vtt_read.specs.FileRead.{FileRead, Done, Refused}
 
 -- ---- the judgement of a block
 
@@ -133,7 +132,7 @@ read_room s = answer_by (judge_file s) (Done (length (file_cues s)) (length (fil
 
 -- 15: the records do not fit (place 0), the pool does not (place 1)
 abbrev pub roomed : ℕ → ℕ → FileRead → FileRead
-roomed records pool (Done n a b) = pick (ltb records a) (Refused (fault 15 0)) (pick (ltb pool b) (Refused (fault 15 1)) (Done n a b))
+roomed records pool (Ok x) = pick (ltb records x.records) (Refused (fault 15 0)) (pick (ltb pool x.pool) (Refused (fault 15 1)) (Done x.cues x.records x.pool))
 roomed records pool (Refused r) = Refused r
 
 -- the answer, by the room that there is for records and pool
@@ -143,5 +142,5 @@ read_of s records pool = roomed records pool (read_room s)
 
 -- an output: the bytes over its front on success, else as it was
 abbrev pub out_of : FileRead → List ℕ → List ℕ → List ℕ
-out_of (Done n a b) new old = over new old
+out_of (Ok x) new old = over new old
 out_of (Refused r) new old = old

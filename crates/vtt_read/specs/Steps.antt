@@ -1,11 +1,10 @@
 -- Terms of the contracts of private functions: where reading stands, and what is written so far.
+use Rattle.std.specs.Prelude.{Ok}
 use Rattle.std.specs.Prelude.{ℕ, ◌+◌, ◌*◌, ◌≤◌, ◌<◌, ◌≡◌, Bool, List, ◌∷◌, length, drop}
 use Rattle.base.specs.Choice.{pick}
 use Rattle.base.specs.Over.{over}
 use Rattle.timeline.specs.Cues.{Cue}
-use Rattle.verdict.specs.declared.Verdict.{Verdict}
-use Rattle.verdict.specs.declared.Verdict.TheVariants.{Fine, Refused}
-use Rattle.verdict.specs.Judgement.{fault}
+use Rattle.verdict.specs.Verdict.{Verdict, Fine, Refused}
 use Rattle.cues.specs.Caption.{Caption, caption, judge_content}
 use Rattle.rows.specs.declared.Row.{Row}
 use Rattle.rows.specs.Table.{row_at}
@@ -14,10 +13,8 @@ use Rattle.vtt_lines.specs.Lines.{joined, Block}
 use Rattle.vtt_blocks.specs.declared.Place.{Place}
 use Rattle.vtt_blocks.specs.Found.{text_in, blocks_at, filled_at}
 use Rattle.vtt_read.specs.declared.State.{State}
-use Rattle.vtt_read.specs.declared.Turn.{Turn}
-use Rattle.vtt_read.specs.declared.Turn.TheVariants.{On, Stopped}
-use Rattle.vtt_read.specs.declared.FileRead.{FileRead}
-use Rattle.vtt_read.specs.declared.FileRead.TheVariants.{Done, Refused as NotRead}
+use Rattle.vtt_read.specs.Turn.{Turn, On, Stopped}
+use Rattle.vtt_read.specs.FileRead.{FileRead, Refused as NotRead}
 use Rattle.vtt_read.specs.Reading.{judge_blocks, cues_in, judge_file, file_cues, numbered_from}
 
 -- the cues of a file with their IDs
@@ -100,14 +97,9 @@ abbrev pub EndIs : List ℕ → List ℕ → Turn → Type 0
 EndIs s tab (On st) = Stands s st × (length s ≤ st.at) × Rows s st.count tab
 EndIs s tab (Stopped r) = judge_file s ≡ Refused r
 
--- the refusal of a verdict; one without fault is not asked
-abbrev pub stopped_by : Verdict → Turn
-stopped_by Fine = Stopped (fault 0 0)
-stopped_by (Refused r) = Stopped r
-
 -- a row for each cue that is answered
 abbrev pub RowsOf : List ℕ → List ℕ → FileRead → Type 0
-RowsOf s tab (Done n a b) = Rows s n tab
+RowsOf s tab (Ok x) = Rows s x.cues tab
 RowsOf s tab (NotRead r) = Unit {0}
 
 -- the file has no fault, and there is room for its records and pool

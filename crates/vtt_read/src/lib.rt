@@ -9,25 +9,22 @@ ghost use Rattle.vtt_lines.specs.Lines.{joined};
 ghost use Rattle.vtt_lines.specs.Cursor.{ScannedTo};
 ghost use Rattle.vtt_blocks.specs.Found.{filled_at, CueAt};
 ghost use Rattle.vtt_read.specs.Reading.{unmarked, file_cues, file_records, file_pool, read_room, roomed, read_of, out_of};
-ghost use Rattle.vtt_read.specs.Steps.{list_of, moved_to, stopped_by, content_at, row_of, Stands, RowAt, Rows, RowsOf, TurnIs, BeginIs, EndIs, Ready, RecordsOn, PoolOn};
+ghost use Rattle.vtt_read.specs.Steps.{list_of, moved_to, content_at, row_of, Stands, RowAt, Rows, RowsOf, TurnIs, BeginIs, EndIs, Ready, RecordsOn, PoolOn};
 
+use boxes::Part;
 use cues::{judge_content, long_texts};
 use records_write::put_cue;
 use rows::{Row, put_row, row_at};
-use verdict::{Refusal, Verdict, fault_at};
+use verdict::{Reason, Refusal, Verdict};
 use vtt_blocks::{Found, Place, find_block, opens_with};
 use vtt_lines::{Scanned, gather, line_from, pass_empty, pass_lines, scan};
-use wvtt_cues::Part;
 
-// How many cues, and the lengths of records and pool in bytes; or a refusal.
+// A list as it is written: how many cues, and the lengths of records and pool in bytes.
 #[derive(Clone, Copy)]
-pub enum FileRead {
-    Done {
-        cues: usize,
-        records: usize,
-        pool: usize,
-    },
-    Refused(Refusal),
+pub struct CueList {
+    pub cues: usize,
+    pub records: usize,
+    pub pool: usize,
 }
 
 // Where reading stands: the place and number of a line, the number of cues before it, the last one's start, and the bytes of their texts.
@@ -40,47 +37,31 @@ struct State {
     size: usize,
 }
 
-// The state behind what was judged, or why not.
-#[derive(Clone, Copy)]
-enum Turn {
-    On(State),
-    Stopped(Refusal),
-}
-
 // The length of the byte order mark.
 fn mark_length(s: &[u8]) -> usize
     ensures { (drop result s.now ≡ unmarked s.now) × (result ≤ length s.now) }
 {
-    if s.len() < 3 {
-        return 0;
+    match s {
+        [0xEF, 0xBB, 0xBF, ..] => 3,
+        _ => 0,
     }
-    if s[0] != 0xEF {
-        return 0;
-    }
-    if s[1] != 0xBB {
-        return 0;
-    }
-    if s[2] != 0xBF {
-        return 0;
-    }
-    3
 }
 
 // Judges the header.
-fn judge_header(s: &[u8]) -> Turn
+fn judge_header(s: &[u8]) -> Result<State, Refusal>
     ensures { BeginIs s.now result }
 {
     let at = mark_length(s);
     let first = line_from(s, at, 1);
     let end = first.end;
     if !opens_with(&s[at..end], b"WEBVTT") {
-        return Turn::Stopped(fault_at(19, 1));
+        return Err(Reason::Malformed.fault_at(1));
     }
     let p = pass_lines(s, at, 1);
     if p.arrow {
-        return Turn::Stopped(fault_at(19, 1));
+        return Err(Reason::Malformed.fault_at(1));
     }
-    Turn::On(State {
+    Ok(State {
         at: p.at,
         line: p.line,
         count: 0,
@@ -93,33 +74,14 @@ fn judge_header(s: &[u8]) -> Turn
 fn moved(state: State, at: usize, line: usize) -> State
     ensures { result ≡ moved_to state at line }
 {
-    State {
-        at,
-        line,
-        count: state.count,
-        before: state.before,
-        size: state.size,
-    }
-}
-
-// The refusal of a verdict; one without fault is not asked.
-fn stopped_by(v: Verdict) -> Turn
-    ensures { result ≡ stopped_by v }
-{
-    match v {
-        Verdict::Fine => Turn::Stopped(fault_at(0, 0)),
-        Verdict::Refused(why) => Turn::Stopped(why),
-    }
+    State { at, line, ..state }
 }
 
 // 1 for a payload that is taken where it stands, else 0.
 fn mark_of(plain: bool) -> usize
     ensures { result ≡ pick plain 1 0 }
 {
-    if plain {
-        return 1;
-    }
-    0
+    usize::from(plain)
 }
 
 // The row of a cue whose block begins at `at`, and whose payload ends at `end` if it is plain.
@@ -162,50 +124,49 @@ fn judge_found(s: &[u8], state: State, c: Place, g: Scanned, buf: &mut [u8]) -> 
     requires { CueAt s.now state.at state.line c × ScannedTo s.now c.payload g.length g.end g.plain × (g.length ≤ 4095) × (length buf.old ≡ 4096) }
     ensures { result ≡ content_at s.now state.before state.at c }
 {
-    let at = state.at;
-    let identifier = c.identifier;
-    let from = c.from;
-    let to = c.to;
-    let payload = c.payload;
     let before = state.before;
     let t = 359999999;
     if g.plain {
-        let end = g.end;
         return judge_content(
             1000,
             t,
             before,
             c.start,
             c.end,
-            &s[at..identifier],
-            &s[from..to],
-            &s[payload..end],
+            &s[state.at..c.identifier],
+            &s[c.from..c.to],
+            &s[c.payload..g.end],
             c.line,
         );
     }
-    let h = gather(s, payload, c.line + 1, &mut *buf);
-    let n = h.length;
+    let h = gather(s, c.payload, c.line + 1, &mut *buf);
     judge_content(
         1000,
         t,
         before,
         c.start,
         c.end,
-        &s[at..identifier],
-        &s[from..to],
-        &buf[0..n],
+        &s[state.at..c.identifier],
+        &s[c.from..c.to],
+        &buf[0..h.length],
         c.line,
     )
 }
 
 // Judges the cue at the state and keeps its row.
-fn judge_cue(s: &[u8], state: State, c: Place, buf: &mut [u8], tab: &mut [usize]) -> Turn
+fn judge_cue(
+    s: &[u8],
+    state: State,
+    c: Place,
+    buf: &mut [u8],
+    tab: &mut [usize],
+) -> Result<State, Refusal>
     requires { Stands s.now state × CueAt s.now state.at state.line c × (length buf.old ≡ 4096) × Rows s.now state.count tab.old }
     ensures { TurnIs s.now state.at tab.new result }
 {
     let line = c.line;
     if 1024 <= state.count {
-        return Turn::Stopped(fault_at(9, line));
+        return Err(Reason::PastLimit.fault_at(line));
     }
     let at = state.at;
     let identifier = c.identifier;
@@ -214,14 +175,11 @@ fn judge_cue(s: &[u8], state: State, c: Place, buf: &mut [u8], tab: &mut [usize]
     let g = scan(s, c.payload, line + 1);
     let n = g.length;
     if long_texts(identifier - at, to - from, n) {
-        return Turn::Stopped(fault_at(9, line));
+        return Err(Reason::PastLimit.fault_at(line));
     }
-    let v = judge_found(s, state, c, g, &mut *buf);
-    let Verdict::Fine = v else {
-        return stopped_by(v);
-    };
+    judge_found(s, state, c, g, &mut *buf)?;
     put_row(&mut *tab, state.count, row_of(at, c, g.end, g.plain));
-    Turn::On(State {
+    Ok(State {
         at: g.at,
         line: g.line,
         count: state.count + 1,
@@ -231,52 +189,43 @@ fn judge_cue(s: &[u8], state: State, c: Place, buf: &mut [u8], tab: &mut [usize]
 }
 
 // Judges what stands at the state.
-fn judge_next(s: &[u8], state: State, buf: &mut [u8], tab: &mut [usize]) -> Turn
+fn judge_next(s: &[u8], state: State, buf: &mut [u8], tab: &mut [usize]) -> Result<State, Refusal>
     requires { Stands s.now state × (state.at < length s.now) × (length buf.old ≡ 4096) × Rows s.now state.count tab.old }
     ensures { TurnIs s.now state.at tab.new result }
 {
     match find_block(s, state.at, state.line) {
-        Found::Empty { at, line } => Turn::On(moved(state, at, line)),
+        Found::Empty { at, line } => Ok(moved(state, at, line)),
         Found::Cue(c) => judge_cue(s, state, c, &mut *buf, &mut *tab),
-        Found::Untimed { line } => Turn::Stopped(fault_at(19, line)),
-        Found::Note { at, line } => Turn::On(moved(state, at, line)),
-        Found::Style => Turn::Stopped(fault_at(18, state.line)),
-        Found::Other => Turn::Stopped(fault_at(19, state.line)),
+        Found::Untimed { line } => Err(Reason::Malformed.fault_at(line)),
+        Found::Note { at, line } => Ok(moved(state, at, line)),
+        Found::Style => Err(Reason::StyleBlock.fault_at(state.line)),
+        Found::Other => Err(Reason::Malformed.fault_at(state.line)),
     }
 }
 
 // Judges what stands from the state on.
-fn judge_rest(s: &[u8], start: State, buf: &mut [u8], tab: &mut [usize]) -> Turn
+fn judge_rest(s: &[u8], start: State, buf: &mut [u8], tab: &mut [usize]) -> Result<State, Refusal>
     requires { Stands s.now start × (start.count ≡ 0) × (length buf.old ≡ 4096) × (length tab.old ≡ 9216) }
     ensures { EndIs s.now tab.new result }
 {
     let mut state = skipped(s, start);
     while state.at < s.len() {
-        match judge_next(s, state, &mut *buf, &mut *tab) {
-            Turn::On(next) => {
-                state = skipped(s, next);
-            }
-            Turn::Stopped(why) => {
-                return Turn::Stopped(why);
-            }
-        }
+        state = skipped(s, judge_next(s, state, &mut *buf, &mut *tab)?);
     }
-    Turn::On(state)
+    Ok(state)
 }
 
 // The room for the cues from the state on, and a row for each.
-fn measure(s: &[u8], start: State, buf: &mut [u8], tab: &mut [usize]) -> FileRead
+fn measure(s: &[u8], start: State, buf: &mut [u8], tab: &mut [usize]) -> Result<CueList, Refusal>
     requires { Stands s.now start × (start.count ≡ 0) × (length buf.old ≡ 4096) × (length tab.old ≡ 9216) }
     ensures { (result ≡ read_room s.now) × RowsOf s.now tab.new result }
 {
-    match judge_rest(s, start, &mut *buf, &mut *tab) {
-        Turn::On(last) => FileRead::Done {
-            cues: last.count,
-            records: last.count * 24,
-            pool: last.size,
-        },
-        Turn::Stopped(why) => FileRead::Refused(why),
-    }
+    let last = judge_rest(s, start, &mut *buf, &mut *tab)?;
+    Ok(CueList {
+        cues: last.count,
+        records: last.count * 24,
+        pool: last.size,
+    })
 }
 
 // Writes record k and its texts by its row, the payload from any lent bytes; gives the place behind them in the pool.
@@ -293,11 +242,7 @@ fn write_texts(
     ensures { (result ≡ length (pool_to (list_of s.now) (k + 1))) × RecordsOn s.now k records.old records.new × PoolOn s.now k pool.old pool.new }
 {
     let identifier = row.identifier;
-    let at = identifier.from;
-    let behind = identifier.end;
     let settings = row.settings;
-    let from = settings.from;
-    let to = settings.end;
     put_cue(
         &mut *records,
         k,
@@ -306,8 +251,8 @@ fn write_texts(
         row.end as u32,
         &mut *pool,
         size,
-        &s[at..behind],
-        &s[from..to],
+        &s[identifier.from..identifier.end],
+        &s[settings.from..settings.end],
         payload,
     )
 }
@@ -326,14 +271,27 @@ fn write_row(
     ensures { (result ≡ length (pool_to (list_of s.now) (k + 1))) × RecordsOn s.now k records.old records.new × PoolOn s.now k pool.old pool.new }
 {
     let payload = row.payload;
-    let from = payload.from;
-    let end = payload.end;
     if row.id == 1 {
-        return write_texts(s, row, k, size, &s[from..end], &mut *records, &mut *pool);
+        return write_texts(
+            s,
+            row,
+            k,
+            size,
+            &s[payload.from..payload.end],
+            &mut *records,
+            &mut *pool,
+        );
     }
-    let g = gather(s, from, 0, &mut *buf);
-    let n = g.length;
-    write_texts(s, row, k, size, &buf[0..n], &mut *records, &mut *pool)
+    let g = gather(s, payload.from, 0, &mut *buf);
+    write_texts(
+        s,
+        row,
+        k,
+        size,
+        &buf[0..g.length],
+        &mut *records,
+        &mut *pool,
+    )
 }
 
 // Writes n cues from their rows.
@@ -349,58 +307,49 @@ fn write_rows(
     ensures { (records.new ≡ over (file_records s.now) records.old) × (pool.new ≡ over (file_pool s.now) pool.old) }
 {
     let mut size = 0;
-    let mut k = 0;
-    while k < n {
+    for k in 0..n {
         let row = row_at(tab, k);
         size = write_row(s, row, k, size, &mut *buf, &mut *records, &mut *pool);
-        k += 1;
     }
 }
 
 // Reads the cues from the state on, where there is room.
-fn write_list(s: &[u8], start: State, records: &mut [u8], pool: &mut [u8]) -> FileRead
+fn write_list(
+    s: &[u8],
+    start: State,
+    records: &mut [u8],
+    pool: &mut [u8],
+) -> Result<CueList, Refusal>
     requires { Stands s.now start × (start.count ≡ 0) }
     ensures { (result ≡ read_of s.now (length records.old) (length pool.old)) × (records.new ≡ out_of result (file_records s.now) records.old) × (pool.new ≡ out_of result (file_pool s.now) pool.old) }
 {
     let mut buf = [0u8; 4096];
     let mut tab = [0usize; 9216];
-    let room = measure(s, start, &mut buf, &mut tab);
-    let FileRead::Done {
-        cues,
-        records: rows,
-        pool: texts,
-    } = room
-    else {
-        return room;
-    };
-    if records.len() < rows {
-        return FileRead::Refused(fault_at(15, 0));
+    let list = measure(s, start, &mut buf, &mut tab)?;
+    if records.len() < list.records {
+        return Err(Reason::NoRoom.fault_at(0));
     }
-    if pool.len() < texts {
-        return FileRead::Refused(fault_at(15, 1));
+    if pool.len() < list.pool {
+        return Err(Reason::NoRoom.fault_at(1));
     }
-    write_rows(s, &tab, cues, &mut buf, &mut *records, &mut *pool);
-    room
+    write_rows(s, &tab, list.cues, &mut buf, &mut *records, &mut *pool);
+    Ok(list)
 }
 
 // The room that reading a file needs: what it answers where there is enough.
-pub fn read_room(file: &[u8]) -> FileRead
+pub fn read_room(file: &[u8]) -> Result<CueList, Refusal>
     ensures { result ≡ read_room file.now }
 {
     let mut buf = [0u8; 4096];
     let mut tab = [0usize; 9216];
-    match judge_header(file) {
-        Turn::On(start) => measure(file, start, &mut buf, &mut tab),
-        Turn::Stopped(why) => FileRead::Refused(why),
-    }
+    let start = judge_header(file)?;
+    measure(file, start, &mut buf, &mut tab)
 }
 
 // The cues of a file as records and pool.
-pub fn read(file: &[u8], records: &mut [u8], pool: &mut [u8]) -> FileRead
+pub fn read(file: &[u8], records: &mut [u8], pool: &mut [u8]) -> Result<CueList, Refusal>
     ensures { (result ≡ read_of file.now (length records.old) (length pool.old)) × (records.new ≡ out_of result (file_records file.now) records.old) × (pool.new ≡ out_of result (file_pool file.now) pool.old) }
 {
-    match judge_header(file) {
-        Turn::On(start) => write_list(file, start, &mut *records, &mut *pool),
-        Turn::Stopped(why) => FileRead::Refused(why),
-    }
+    let start = judge_header(file)?;
+    write_list(file, start, &mut *records, &mut *pool)
 }

@@ -34,7 +34,7 @@ use Rattle.vtt_timing.proofs.Grammar.{timing-means}
 use Rattle.vtt_blocks.specs.Kinds.{Kind, cue, untimed, note, style, other, NOTE, STYLE, REGION, opens, names, timed, plain_kind, later_kind, kind_of}
 use Rattle.vtt_blocks.proofs.Blocks.{block}
 use Rattle.vtt_read.specs.Reading.{with_cue, cues_in, unmarked, cues_of_lines, numbered_from, file_cues, file_records, file_pool}
-use Rattle.vtt_write.specs.declared.FileWritten.TheVariants.{Done}
+use Rattle.vtt_write.specs.FileWritten.{Done}
 use Rattle.vtt_write.specs.Writing.{file_bytes, write_room}
 use Rattle.vtt_laws.proofs.Sound.{Sounds, file-sound}
 use Rattle.vtt_laws.proofs.Records.{nothing, start-at, end-at, identifier-at, settings-at, payload-at, records-many, records-sound}

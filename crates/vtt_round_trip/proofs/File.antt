@@ -13,7 +13,7 @@ use Rattle.base.proofs.Choice.{both_left, both_right, true-false}
 use Rattle.utf8.specs.Strings.{LF, starts_with, ends_line}
 use Rattle.utf8.specs.Utf8.{utf8}
 use Rattle.text.specs.Rules.{webvtt, configuration_text}
-use Rattle.verdict.specs.declared.Verdict.TheVariants.{Fine}
+use Rattle.verdict.specs.Verdict.{Fine}
 use Rattle.cues.specs.Caption.{Caption, caption, SoundCaption}
 use Rattle.cues.proofs.Sound.{caption-fine-iff}
 use Rattle.vtt_lines.specs.Lines.{Line, lines_of, joined, Block, blocks_from, holds_arrow, some_arrow}

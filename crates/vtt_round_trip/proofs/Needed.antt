@@ -8,7 +8,7 @@ use lib.ListN.{length, get_or}
 use Rattle.base.specs.Choice.{within}
 use Rattle.base.specs.First.{first_from, first}
 use Rattle.verdict.specs.declared.Refusal.{Refusal}
-use Rattle.verdict.specs.declared.Verdict.TheVariants.{Fine, Refused}
+use Rattle.verdict.specs.Verdict.{Fine, Refused}
 use Rattle.verdict.specs.Judgement.{fault, each}
 use Rattle.fields.specs.BigEndian.{be, bytes}
 use Rattle.viable.specs.FirstBad.{judged_by}

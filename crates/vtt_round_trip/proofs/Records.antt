@@ -10,8 +10,7 @@ use Rattle.text.specs.Beginnings.{configuration_begun}
 use Rattle.timeline.specs.Cues.{Cue}
 use Rattle.timeline.specs.Unpacking.{no_cue}
 use Rattle.timeline.proofs.Listing.{length-listed, listed_at, listed-from}
-use Rattle.verdict.specs.declared.Verdict.{Verdict}
-use Rattle.verdict.specs.declared.Verdict.TheVariants.{Fine, Refused}
+use Rattle.verdict.specs.Verdict.{Verdict, Fine, Refused}
 use Rattle.verdict.proofs.Judgement.{text-fine}
 use Rattle.records.specs.Records.{count, start_ms}
 use Rattle.records.proofs.Laws.{text-lengths}
@@ -22,7 +21,7 @@ use Rattle.cues.proofs.Sound.{fine-iff, length-cues}
 use Rattle.records_write.specs.Records.{texts_of, pool_to, records_of, pool_of}
 use Rattle.vtt_read.specs.Reading.{cue_with, numbered_from, file_cues, file_records, file_pool, read_room}
 use Rattle.vtt_read.proofs.Lists.{length_from, cue-at}
-use Rattle.vtt_write.specs.declared.FileWritten.TheVariants.{Done}
+use Rattle.vtt_write.specs.FileWritten.{Done}
 use Rattle.vtt_write.specs.Writing.{file_bytes, by_both, write_room}
 use Rattle.vtt_laws.proofs.Sound.{Sounds}
 use Rattle.vtt_laws.proofs.Records.{nothing, id-at, start-at, end-at, identifier-at, settings-at, payload-at, records-many, records-length}

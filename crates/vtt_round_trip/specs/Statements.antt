@@ -3,14 +3,14 @@ use Rattle.std.specs.Prelude.{ℕ, ◌<◌, ◌≡◌, List, [], ◌∷◌, ◌+
 use Rattle.utf8.specs.Strings.{CR, LF}
 use Rattle.utf8.specs.Forbidden.{arrow}
 use Rattle.text.specs.Rules.{webvtt}
-use Rattle.verdict.specs.declared.Verdict.TheVariants.{Fine}
+use Rattle.verdict.specs.Verdict.{Fine}
 use Rattle.records.specs.Records.{count, source_id, start_ms, end_ms, identifier_of, settings_of, payload_of}
 use Rattle.cues.specs.Caption.{Caption}
 use Rattle.cues.specs.List.{cues_of, captions_of}
 use Rattle.records_write.specs.Records.{record_bytes, pool_of}
-use Rattle.vtt_read.specs.declared.FileRead.TheVariants.{Done as ReadDone}
+use Rattle.vtt_read.specs.FileRead.{Done as ReadDone}
 use Rattle.vtt_read.specs.Reading.{judge_file, file_cues, file_records, file_pool, read_room}
-use Rattle.vtt_write.specs.declared.FileWritten.TheVariants.{Done}
+use Rattle.vtt_write.specs.FileWritten.{Done}
 use Rattle.vtt_write.specs.Writing.{file_bytes, write_room}
 use Rattle.vtt_round_trip.specs.Premises.{NoEmptyLine, NoArrow, FirstLineTaken, Header, NoCR, SettingsBegin, SettingsEnd, Plain, Each, Premises}
 

@@ -14,7 +14,7 @@ use Rattle.base.proofs.Choice.{by-test, either, true-false}
 use Rattle.base.proofs.Tests.{both-no}
 use Rattle.utf8.specs.Strings.{starts_with}
 use Rattle.utf8.specs.Forbidden.{arrow}
-use Rattle.timestamps.specs.declared.Timestamp.TheVariants.{Ms, Malformed}
+use Rattle.timestamps.specs.Timestamp.{Ms, Malformed}
 use Rattle.timestamps.specs.Timestamps.{front, behind, time_of, capped, answered}
 use Rattle.timestamps.proofs.Laws.{behind-drop}
 use Rattle.vtt_timing.specs.Timing.{blank, unblank, edge, begins, unless_edge, trimmed_end, trimmed, timing, after_word, timing_of}
@@ -93,6 +93,10 @@ module _ (s : List ℕ) (from : ℕ) where
   -- `to` is behind the end, or behind edges from the end
   abbrev pub Trimming : ℕ → Type 0
   Trimming to = (from ≤ to) × (to ≤ length s) × (trimmed_end (up_to to) ≡ trimmed_end (drop from s))
+
+  -- what is left up to `to` has no edges at its end
+  abbrev pub Trimmed : ℕ → Type 0
+  Trimmed to = (from ≤ to) × (to ≤ length s) × (up_to to ≡ trimmed_end (drop from s))
 
   pub trimming-start : from ≤ length s → Trimming (length s)
   trimming-start h = (h, omega arith, ap trimmed_end (take_all (length s - from) (drop from s) (omega (arith, length-drop from s))))

@@ -7,7 +7,7 @@ use native.Mathlib.Omega.{arith}
 use lib.ListN.{length, take, drop, get_or, take-append-drop, drop_of_length-le}
 use lib.Seq.{drop-cons, drop-drop}
 use Rattle.utf8.specs.Forbidden.{arrow}
-use Rattle.timestamps.specs.declared.Timestamp.TheVariants.{Ms}
+use Rattle.timestamps.specs.Timestamp.{Ms}
 use Rattle.timestamps.specs.Timestamps.{behind, time_of, answered}
 use Rattle.vtt_timing.specs.Timing.{blank, edge, trimmed_end, trimmed, Timing}
 use Rattle.vtt_timing.specs.Grammar.{Blanks, ended}

@@ -1,13 +1,12 @@
 -- Terms of the contracts: runs of bytes, and a timing line as it is answered.
-use Rattle.std.specs.Prelude.{ℕ, ◌-◌, ◌≤◌, ◌≡◌, Bool, true, List, length, take, drop, get_or}
+use Rattle.std.specs.Prelude.{ℕ, ◌-◌, ◌≤◌, ◌≡◌, Bool, true, List, length, take, drop, get_or, Option, Some, None}
 use Rattle.std.proofs.Math.Option.{none, some}
 use Rattle.utf8.specs.Strings.{starts_with}
 use Rattle.utf8.specs.Forbidden.{arrow}
 use Rattle.timestamps.specs.Timestamps.{capped}
 use Rattle.vtt_timing.specs.declared.Run.{Run}
 use Rattle.vtt_timing.specs.declared.Run.TheVariants.{Blanks, Word, Edges}
-use Rattle.vtt_timing.specs.declared.Answer.{Answer}
-use Rattle.vtt_timing.specs.declared.Answer.TheVariants.{Times, Malformed}
+use Rattle.vtt_timing.specs.declared.Times.{Times}
 use Rattle.vtt_timing.specs.Grammar.{ended}
 use Rattle.vtt_timing.specs.Timing.{blank, unblank, edge, Timing, timing_of}
 
@@ -35,11 +34,11 @@ pub record TimesIn (l : List ℕ) (start end from to : ℕ) : Type 0 where
   pub within : to ≤ length l
   pub settings_is : take (to - from) (drop from l) ≡ says.settings
 
-abbrev pub ReadAs : List ℕ → Answer → Type 0
-ReadAs l (Times start end from to) = TimesIn l start end from to
-ReadAs l Malformed = timing_of l ≡ none
+abbrev pub ReadAs : List ℕ → Option Times → Type 0
+ReadAs l (Some t) = TimesIn l t.start t.end t.from t.to
+ReadAs l None = timing_of l ≡ none
 
 -- what is read by places is what the line says; nothing is said of a line that is not
-abbrev pub UsuallyRead : List ℕ → Answer → Type 0
-UsuallyRead l (Times start end from to) = TimesIn l start end from to
-UsuallyRead l Malformed = Unit {0}
+abbrev pub UsuallyRead : List ℕ → Option Times → Type 0
+UsuallyRead l (Some t) = TimesIn l t.start t.end t.from t.to
+UsuallyRead l None = Unit {0}

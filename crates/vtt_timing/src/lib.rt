@@ -9,19 +9,16 @@ ghost use Rattle.utf8.specs.Forbidden.{arrow};
 ghost use Rattle.vtt_timing.specs.Timing.{blank, edge, begins, trimmed_end};
 ghost use Rattle.vtt_timing.specs.Read.{in_run, Usual, UsuallyRead, ReadAs};
 
-use timestamps::{Timestamp, read_timestamp};
+use timestamps::read_timestamp;
 use vtt_lines::is_arrow;
 
-// Times in milliseconds, at most 360,000,000, and where the settings stand in the line; or it is no timing line.
+// What a timing line says: times in milliseconds, at most 360,000,000, and where the settings stand in the line.
 #[derive(Clone, Copy)]
-pub enum Answer {
-    Times {
-        start: u32,
-        end: u32,
-        from: usize,
-        to: usize,
-    },
-    Malformed,
+pub struct Times {
+    pub start: u32,
+    pub end: u32,
+    pub from: usize,
+    pub to: usize,
 }
 
 // A run of bytes: spaces and tabs; all others; spaces, tabs and form feeds.
@@ -33,23 +30,19 @@ pub enum Run {
 }
 
 // A space or a tab.
+#[tactic(auto, unfolding(crate::specs::Timing::blank))]
 pub fn is_blank(b: u8) -> bool
     ensures { result ≡ blank b }
 {
-    if b == b' ' {
-        return true;
-    }
-    b == b'\t'
+    matches!(b, b' ' | b'\t')
 }
 
 // A space, tab or form feed.
+#[tactic(auto, unfolding(crate::specs::Timing::edge))]
 fn is_edge(b: u8) -> bool
     ensures { result ≡ edge b }
 {
-    if is_blank(b) {
-        return true;
-    }
-    b == 0x0C
+    is_blank(b) || b == 0x0C
 }
 
 pub fn is_in(run: Run, b: u8) -> bool
@@ -67,14 +60,12 @@ pub fn pass_run(s: &[u8], at: usize, run: Run) -> usize
     requires { at ≤ length s.now }
     ensures { (result ≡ at + length (front (in_run run) (drop at s.now))) × (result ≤ length s.now) }
 {
-    let mut i = at;
-    while i < s.len() {
+    for i in at..s.len() {
         if !is_in(run, s[i]) {
             return i;
         }
-        i += 1;
     }
-    i
+    s.len()
 }
 
 // The place behind what is left from `from` on without the spaces, tabs and form feeds at the end.
@@ -82,14 +73,12 @@ fn trim_end(s: &[u8], from: usize) -> usize
     requires { from ≤ length s.now }
     ensures { (from ≤ result) × (result ≤ length s.now) × (take (result - from) (drop from s.now) ≡ trimmed_end (drop from s.now)) }
 {
-    let mut to = s.len();
-    while from < to {
-        if !is_edge(s[to - 1]) {
-            return to;
+    for to in (from..s.len()).rev() {
+        if !is_edge(s[to]) {
+            return to + 1;
         }
-        to -= 1;
     }
-    to
+    from
 }
 
 // Whether `-->` and a blank stand at i.
@@ -138,63 +127,51 @@ fn is_usual(l: &[u8]) -> bool
     is_blank(l[29])
 }
 
-// Reads a timing line of the usual form by its places; another one may be malformed or not.
-fn read_usual(l: &[u8]) -> Answer
+// Reads a timing line of the usual form by its places; another one may be one or not.
+fn read_usual(l: &[u8]) -> Option<Times>
     ensures { UsuallyRead l.now result }
 {
     if !is_usual(l) {
-        return Answer::Malformed;
+        return None;
     }
-    let Timestamp::Ms(start) = read_timestamp(&l[0..12]) else {
-        return Answer::Malformed;
-    };
-    let Timestamp::Ms(end) = read_timestamp(&l[17..29]) else {
-        return Answer::Malformed;
-    };
+    let start = read_timestamp(&l[0..12])?;
+    let end = read_timestamp(&l[17..29])?;
     let from = pass_run(l, 29, Run::Edges);
     let to = trim_end(l, from);
-    Answer::Times {
+    Some(Times {
         start,
         end,
         from,
         to,
-    }
+    })
 }
 
 // Reads a timing line word by word.
-fn read_words(l: &[u8]) -> Answer
+fn read_words(l: &[u8]) -> Option<Times>
     ensures { ReadAs l.now result }
 {
     let first = pass_run(l, 0, Run::Word);
     let arrow = pass_run(l, first, Run::Blanks);
     if !is_between(l, arrow) {
-        return Answer::Malformed;
+        return None;
     }
     let second = pass_run(l, arrow + 3, Run::Blanks);
     let rest = pass_run(l, second, Run::Word);
-    let Timestamp::Ms(start) = read_timestamp(&l[0..first]) else {
-        return Answer::Malformed;
-    };
-    let Timestamp::Ms(end) = read_timestamp(&l[second..rest]) else {
-        return Answer::Malformed;
-    };
+    let start = read_timestamp(&l[0..first])?;
+    let end = read_timestamp(&l[second..rest])?;
     let from = pass_run(l, rest, Run::Edges);
     let to = trim_end(l, from);
-    Answer::Times {
+    Some(Times {
         start,
         end,
         from,
         to,
-    }
+    })
 }
 
-// Reads a timing line.
-pub fn read_timing(l: &[u8]) -> Answer
+// Reads a timing line, if it is one.
+pub fn read_timing(l: &[u8]) -> Option<Times>
     ensures { ReadAs l.now result }
 {
-    let usual = read_usual(l);
-    let Answer::Malformed = usual else {
-        return usual;
-    };
-    read_words(l)
+    read_usual(l).or_else(|| read_words(l))
 }

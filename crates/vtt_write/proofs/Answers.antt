@@ -8,19 +8,22 @@ use native.Mathlib.Omega.{arith}
 use borrow.Author.Tests.{lt-ltb, le-ltb, ltb-false}
 use lib.Dec.{ltb}
 use lib.ListN.{length}
+use Rattle.std.proofs.Common.{Result, Ok, Err}
+use Rattle.std.specs.Result.{MatchResult, IsErrAnd}
+use Rattle.std.proofs.lemmas.Result.{err_from_is_err_and}
 use Rattle.viable.specs.FirstBad.{judged_by}
 use Rattle.text.specs.Rules.{configuration_text}
 use Rattle.text.specs.Beginnings.{configuration_begun}
 use Rattle.verdict.specs.declared.Refusal.{Refusal}
-use Rattle.verdict.specs.declared.Verdict.{Verdict}
-use Rattle.verdict.specs.declared.Verdict.TheVariants.{Fine, Refused}
+use Rattle.verdict.specs.Verdict.{Verdict, Fine, Refused}
 use Rattle.verdict.specs.Judgement.{fault, text_at}
 use Rattle.records.specs.Records.{count}
 use Rattle.cues.specs.Judgement.{judge_list}
 use Rattle.cues.specs.List.{Sound}
 use Rattle.cues.proofs.Sound.{fine-iff}
-use Rattle.vtt_write.specs.declared.FileWritten.{FileWritten}
-use Rattle.vtt_write.specs.declared.FileWritten.TheVariants.{Done, BadConfiguration, BadList, NoRoom}
+use Rattle.vtt_write.specs.declared.Fault.{Fault}
+use Rattle.vtt_write.specs.declared.Fault.TheVariants.{Configuration as OfConfiguration, List as OfList, Room as OfRoom}
+use Rattle.vtt_write.specs.FileWritten.{FileWritten, Done, BadConfiguration, BadList, NoRoom}
 use Rattle.vtt_write.specs.Writing.{file_bytes, by_both, write_room, lent, written_of, after}
 use Rattle.vtt_write.specs.Steps.{size_to}
 use Rattle.vtt_write.proofs.Laws.{length-file}
@@ -48,6 +51,27 @@ unfolding write_room
 room-done c recs pool n e f g =
     let s = list-sound recs pool f in
     rw (e, f) (ap Done (ap (λ (k : ℕ). length c + 2 + k) g ∙ sym (length-file c recs pool s)))
+
+-- what `map_err` makes: the same, with whose fault it is
+abbrev pub err_by : {T E D : Type 0} → (E → D) → Result T E → Result T D
+err_by f (Ok x) = Ok x
+err_by f (Err e) = Err (f e)
+
+pub mapped : {T E D : Type 0} {P : E → D → Type 0} (f : E → D) (a : Result T E) (r : Result T D) → ((e : E) (d : D) → P e d → d ≡ f e) → MatchResult a (λ x. r ≡ Ok x) (λ e. IsErrAnd r (P e)) → r ≡ err_by f a
+mapped f (Ok x) r h q = q
+mapped f (Err e) r h q = let p = err_from_is_err_and r q in p.1 ∙ ap Err (h e p.0 p.2)
+
+pub still-fine : (f : Refusal → Fault) (v : Verdict) (x : _) → err_by f v ≡ Ok x → v ≡ Fine
+still-fine f Fine x h = refl
+still-fine f (Refused r) x h = let z : ◌≡◌ {A = ℕ} 0 1 = cc in absurd (omega arith)
+
+pub room-first : (c recs pool : List ℕ) (v : Verdict) (q : Fault) → v ≡ judge_configuration c → err_by OfConfiguration v ≡ Err q → Err q ≡ write_room c recs pool
+room-first c recs pool Fine q e h = let z : ◌≡◌ {A = ℕ} 0 1 = cc in absurd (omega arith)
+room-first c recs pool (Refused r) q e h = ap Err (let z : q ≡ OfConfiguration r = cc in z) ∙ room-configuration c recs pool r (sym e)
+
+pub room-second : (c recs pool : List ℕ) (v : Verdict) (q : Fault) → judge_configuration c ≡ Fine → v ≡ judge_list 1000 359999999 recs pool → err_by OfList v ≡ Err q → Err q ≡ write_room c recs pool
+room-second c recs pool Fine q g e h = let z : ◌≡◌ {A = ℕ} 0 1 = cc in absurd (omega arith)
+room-second c recs pool (Refused r) q g e h = ap Err (let z : q ≡ OfList r = cc in z) ∙ room-list c recs pool r g (sym e)
 
 by-done : (v w : Verdict) (m n : ℕ) → by_both v w m ≡ Done n → (v ≡ Fine) × (w ≡ Fine) × (m ≡ n)
 by-done Fine Fine m n e = (refl, refl, cc)
@@ -86,11 +110,9 @@ lent-done room (BadConfiguration r) n e = let z : ◌≡◌ {A = ℕ} 0 1 = cc i
 lent-done room (BadList r) n e = let z : ◌≡◌ {A = ℕ} 0 1 = cc in absurd (omega arith)
 lent-done room (NoRoom r) n e = let z : ◌≡◌ {A = ℕ} 0 1 = cc in absurd (omega arith)
 
--- an answer that is not done stays, and nothing is written
-pub stays-refused : (c recs pool : List ℕ) (room : ℕ) (w : FileWritten) → w ≡ write_room c recs pool → ((n : ℕ) → w ≡ Done n → ⊥)
-    → (w ≡ written_of c recs pool room) × ((file old : List ℕ) → old ≡ after w file old)
+-- a fault stays, and nothing is written
+pub stays-refused : (c recs pool : List ℕ) (room : ℕ) (q : Fault) → Err q ≡ write_room c recs pool → (Err q ≡ written_of c recs pool room) × ((file old : List ℕ) → old ≡ after (Err q) file old)
 unfolding written_of
-stays-refused c recs pool room (Done n) e h = absurd (h n refl)
-stays-refused c recs pool room (BadConfiguration r) e h = (ap (lent room) e, λ file old. refl)
-stays-refused c recs pool room (BadList r) e h = (ap (lent room) e, λ file old. refl)
-stays-refused c recs pool room (NoRoom r) e h = (ap (lent room) e, λ file old. refl)
+stays-refused c recs pool room (OfConfiguration r) e = (ap (lent room) e, λ file old. refl)
+stays-refused c recs pool room (OfList r) e = (ap (lent room) e, λ file old. refl)
+stays-refused c recs pool room (OfRoom r) e = (ap (lent room) e, λ file old. refl)

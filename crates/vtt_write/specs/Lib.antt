@@ -1,2 +1,3 @@
+pub mod FileWritten
 pub mod Writing
 pub mod Steps

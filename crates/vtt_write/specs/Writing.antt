@@ -7,16 +7,14 @@ use Rattle.utf8.specs.Forbidden.{arrow}
 use Rattle.viable.specs.FirstBad.{judged_by}
 use Rattle.text.specs.Rules.{configuration_text}
 use Rattle.text.specs.Beginnings.{configuration_begun}
-use Rattle.verdict.specs.declared.Verdict.{Verdict}
-use Rattle.verdict.specs.declared.Verdict.TheVariants.{Fine, Refused}
+use Rattle.verdict.specs.Verdict.{Verdict, Fine, Refused}
 use Rattle.verdict.specs.Judgement.{fault, text_at}
 use Rattle.cues.specs.Caption.{Caption}
 use Rattle.cues.specs.Judgement.{judge_list}
 use Rattle.cues.specs.List.{captions_of}
 use Rattle.timestamps.specs.Timestamps.{time_text}
 use Rattle.vtt_lines.specs.Lines.{joined}
-use Rattle.vtt_write.specs.declared.FileWritten.{FileWritten}
-use Rattle.vtt_write.specs.declared.FileWritten.TheVariants.{Done, BadConfiguration, BadList, NoRoom}
+use Rattle.vtt_write.specs.FileWritten.{FileWritten, Done, BadConfiguration, BadList, NoRoom}
 
 -- ---- the file
 

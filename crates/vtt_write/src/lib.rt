@@ -19,15 +19,15 @@ use records::{
 use records_write::put_text;
 use text::judge_configuration;
 use timestamps::put_timestamp;
-use verdict::{Refusal, Verdict, fault_at, text_at};
+use verdict::{Reason, Refusal, Verdict, text_at};
 
-// The bytes of a file; or whose fault it is that there is none.
+// Whose fault it is that there is no file.
 #[derive(Clone, Copy)]
-pub enum FileWritten {
-    Done(usize),
-    BadConfiguration(Refusal),
-    BadList(Refusal),
-    NoRoom(Refusal),
+pub enum Fault {
+    Configuration(Refusal),
+    List(Refusal),
+    // The file lent is too short.
+    Room(Refusal),
 }
 
 // A text of n bytes with its line end or its space, if there is any.
@@ -35,10 +35,7 @@ fn line_size(n: usize) -> usize
     requires { n < 65536 }
     ensures { (result ≡ line_size n) × (result ≤ n + 1) }
 {
-    if n == 0 {
-        return 0;
-    }
-    n + 1
+    if n == 0 { 0 } else { n + 1 }
 }
 
 // The bytes of cue i with the blank line before it.
@@ -50,10 +47,7 @@ fn cue_size(records: &[u8], i: usize) -> usize
     let settings = line_size(settings_length(records, i) as usize);
     let payload = line_size(payload_length(records, i) as usize);
     let size = identifier + (30 + settings) + payload;
-    if i == 0 {
-        return size;
-    }
-    1 + size
+    if i == 0 { size } else { 1 + size }
 }
 
 // The bytes of all cues.
@@ -63,10 +57,8 @@ fn cues_size(records: &[u8]) -> usize
 {
     let n = records.len() / 24;
     let mut size = 0;
-    let mut i = 0;
-    while i < n {
+    for i in 0..n {
         size += cue_size(records, i);
-        i += 1;
     }
     size
 }
@@ -165,10 +157,11 @@ fn put_next(out: &mut [u8], at: usize, records: &[u8], pool: &[u8], i: usize) ->
     ensures { (result ≡ at + (gap_size i + cue_size (identifier_length records.now i) (settings_length records.now i) (payload_length records.now i))) × (out.new ≡ wrote out.old at (gap i ++ cue_text (caption_of records.now pool.now i))) }
 {
     if i == 0 {
-        return put_pooled(&mut *out, at, records, pool, i);
+        put_pooled(&mut *out, at, records, pool, i)
+    } else {
+        out[at] = b'\n';
+        put_pooled(&mut *out, at + 1, records, pool, i)
     }
-    out[at] = b'\n';
-    put_pooled(&mut *out, at + 1, records, pool, i)
 }
 
 // All cues, from `at` on.
@@ -178,10 +171,8 @@ fn put_cues(out: &mut [u8], at: usize, records: &[u8], pool: &[u8])
 {
     let n = records.len() / 24;
     let mut place = at;
-    let mut i = 0;
-    while i < n {
+    for i in 0..n {
         place = put_next(&mut *out, place, records, pool, i);
-        i += 1;
     }
 }
 
@@ -197,32 +188,28 @@ fn put_file(out: &mut [u8], configuration: &[u8], records: &[u8], pool: &[u8])
 }
 
 // How many bytes the file has, or why it cannot be written.
-pub fn write_room(configuration: &[u8], records: &[u8], pool: &[u8]) -> FileWritten
+pub fn write_room(configuration: &[u8], records: &[u8], pool: &[u8]) -> Result<usize, Fault>
     ensures { result ≡ write_room configuration.now records.now pool.now }
 {
-    let first = text_at(0, judge_configuration(configuration));
-    if let Verdict::Refused(why) = first {
-        return FileWritten::BadConfiguration(why);
-    }
-    let second = judge_list(1000, 359999999, records, pool);
-    if let Verdict::Refused(why) = second {
-        return FileWritten::BadList(why);
-    }
-    FileWritten::Done(configuration.len() + 2 + cues_size(records))
+    text_at(0, judge_configuration(configuration)).map_err(Fault::Configuration)?;
+    judge_list(1000, 359999999, records, pool).map_err(Fault::List)?;
+    Ok(configuration.len() + 2 + cues_size(records))
 }
 
 // Writes the file over the front of `out`, or says why not.
-pub fn write(configuration: &[u8], records: &[u8], pool: &[u8], out: &mut [u8]) -> FileWritten
+pub fn write(
+    configuration: &[u8],
+    records: &[u8],
+    pool: &[u8],
+    out: &mut [u8],
+) -> Result<usize, Fault>
     ensures value { result ≡ written_of configuration.now records.now pool.now (length out.old) }
     ensures out_after { out.new ≡ after result (file_bytes configuration.now records.now pool.now) out.old }
 {
-    let room = write_room(configuration, records, pool);
-    let FileWritten::Done(n) = room else {
-        return room;
-    };
+    let n = write_room(configuration, records, pool)?;
     if out.len() < n {
-        return FileWritten::NoRoom(fault_at(15, 0));
+        return Err(Fault::Room(Reason::NoRoom.fault_at(0)));
     }
     put_file(&mut *out, configuration, records, pool);
-    FileWritten::Done(n)
+    Ok(n)
 }

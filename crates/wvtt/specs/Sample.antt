@@ -1,8 +1,7 @@
 -- The judgement of a sample. Document 01, 'WebVTT samples' and 'Numbers given back'.
 use Rattle.std.specs.Prelude.{ℕ, ◌-◌, List, [], Bool, not, ltb, leb, eqb, length}
 use Rattle.base.specs.Choice.{pick, both, any_of}
-use Rattle.verdict.specs.declared.Verdict.{Verdict}
-use Rattle.verdict.specs.declared.Verdict.TheVariants.{Fine}
+use Rattle.verdict.specs.Verdict.{Verdict, Fine}
 use Rattle.verdict.specs.Judgement.{◌gives◌at◌, text_at, ◌then◌}
 use Rattle.fields.specs.BigEndian.{be}
 use Rattle.viable.specs.FirstBad.{judged_by}

@@ -7,14 +7,14 @@ ghost use Rattle.verdict.specs.Judgement.{◌gives◌at◌, ◌then◌};
 ghost use Rattle.boxes.specs.Boxes.{stopped_by, among};
 ghost use Rattle.text.specs.Rules.{identifier_text, payload_text};
 ghost use Rattle.text.specs.Beginnings.{identifier_begun, payload_begun};
-ghost use Rattle.wvtt.specs.Kinds.{line, single};
+ghost use Rattle.wvtt.specs.Kinds.{single};
 ghost use Rattle.wvtt.specs.Sample.{judge_id, judge_text, judge_body, in_cue, judge_cue, in_sample, end_counts, judge_sample};
 ghost use Rattle.wvtt.specs.Seen.{Marks};
 
 use boxes::{Step, mark_kind, pass_boxes, step_at, stopped_by};
 use fields::get32;
 use text::judge_identifier;
-use verdict::{Verdict, refused, text_at};
+use verdict::{Reason, Verdict, text_at};
 
 pub const VTTC: u32 = 0x76747463;
 
@@ -46,15 +46,15 @@ fn judge_id(s: &[u8], place: usize, body: usize, next: usize) -> Verdict
     ensures { result ≡ judge_id s.now place body next }
 {
     if next - body < 4 {
-        return refused(1, place);
+        return Reason::BytesMissing.refused(place);
     }
     if 4 < next - body {
-        return refused(2, place);
+        return Reason::BadSize.refused(place);
     }
     if 0x80000000 <= get32(s, body) {
-        return refused(8, place);
+        return Reason::BadValue.refused(place);
     }
-    Verdict::Fine
+    Ok(())
 }
 
 // A text under the identifier's rule.
@@ -63,7 +63,7 @@ fn judge_line(s: &[u8], place: usize, body: usize, next: usize) -> Verdict
     ensures { result ≡ judge_text identifier_text identifier_begun 255 s.now place body next }
 {
     if 255 < next - body {
-        return refused(9, place);
+        return Reason::PastLimit.refused(place);
     }
     text_at(place, judge_identifier(&s[body..next]))
 }
@@ -74,60 +74,38 @@ fn judge_payload(s: &[u8], place: usize, body: usize, next: usize) -> Verdict
     ensures { result ≡ judge_text payload_text payload_begun 4095 s.now place body next }
 {
     if 4095 < next - body {
-        return refused(9, place);
+        return Reason::PastLimit.refused(place);
     }
     text_at(place, text::judge_payload(&s[body..next]))
 }
 
-fn is_line(kind: u32) -> bool
-    ensures { result ≡ line kind }
-{
-    if kind == IDEN {
-        return true;
-    }
-    if kind == CTIM {
-        return true;
-    }
-    kind == STTG
-}
-
 // The body of a box of a cue.
+#[tactic(auto, unfolding(crate::specs::Sample::judge_body, crate::specs::Kinds::line))]
 fn judge_body(s: &[u8], place: usize, kind: u32, body: usize, next: usize) -> Verdict
     requires { (body ≤ next) × (next ≤ length s.now) }
     ensures { result ≡ judge_body s.now place kind body next }
 {
-    if kind == VSID {
-        return judge_id(s, place, body, next);
+    match kind {
+        VSID => judge_id(s, place, body, next),
+        PAYL => judge_payload(s, place, body, next),
+        IDEN | CTIM | STTG => judge_line(s, place, body, next),
+        _ => Ok(()),
     }
-    if kind == PAYL {
-        return judge_payload(s, place, body, next);
-    }
-    if is_line(kind) {
-        return judge_line(s, place, body, next);
-    }
-    Verdict::Fine
 }
 
 // A box of this kind has been there, and may be there once only.
+#[tactic(auto, unfolding(crate::specs::Kinds::single, crate::specs::Kinds::line))]
 fn repeats(seen: Seen, kind: u32) -> bool
     ensures { (before : List ℕ) → Marks seen before → result ≡ both (single kind) (among kind before) }
 {
-    if kind == VSID {
-        return seen.vsid;
+    match kind {
+        VSID => seen.vsid,
+        PAYL => seen.payl,
+        IDEN => seen.iden,
+        CTIM => seen.ctim,
+        STTG => seen.sttg,
+        _ => false,
     }
-    if kind == PAYL {
-        return seen.payl;
-    }
-    if kind == IDEN {
-        return seen.iden;
-    }
-    if kind == CTIM {
-        return seen.ctim;
-    }
-    if kind == STTG {
-        return seen.sttg;
-    }
-    false
 }
 
 fn with_kind(seen: Seen, kind: u32) -> Seen
@@ -148,7 +126,7 @@ fn judge_part(s: &[u8], seen: Seen, place: usize, kind: u32, body: usize, next: 
     ensures { (before : List ℕ) → Marks seen before → result ≡ in_cue s.now before place kind body next }
 {
     if repeats(seen, kind) {
-        return refused(3, place);
+        return Reason::KindTwice.refused(place);
     }
     judge_body(s, place, kind, body, next)
 }
@@ -157,14 +135,12 @@ fn judge_part(s: &[u8], seen: Seen, place: usize, kind: u32, body: usize, next: 
 fn end_cue(t: Step, payload: bool, place: usize) -> Verdict
     ensures { result ≡ stopped_by t then (not payload gives 4 at place) }
 {
-    let v = stopped_by(t);
-    let Verdict::Fine = v else {
-        return v;
-    };
+    stopped_by(t)?;
     if payload {
-        return Verdict::Fine;
+        Ok(())
+    } else {
+        Reason::BoxMissing.refused(place)
     }
-    refused(4, place)
 }
 
 // A `vttc` at `place`, whose body goes from `from` to `end`.
@@ -185,27 +161,23 @@ pub fn judge_cue(s: &[u8], place: usize, from: usize, end: usize) -> Verdict
         let Step::Box { kind, body, next } = t else {
             return end_cue(t, seen.payl, place);
         };
-        let v = judge_part(s, seen, at, kind, body, next);
-        let Verdict::Fine = v else {
-            return v;
-        };
+        judge_part(s, seen, at, kind, body, next)?;
         seen = with_kind(seen, kind);
         at = next;
     }
 }
 
 // A box of a sample.
+#[tactic(auto, unfolding(crate::specs::Sample::in_sample))]
 fn judge_box(s: &[u8], place: usize, kind: u32, body: usize, next: usize) -> Verdict
     requires { next ≤ length s.now }
     ensures { (before : List ℕ) → result ≡ in_sample s.now before place kind body next }
 {
-    if kind == VTTC {
-        return judge_cue(s, place, body, next);
+    match kind {
+        VTTC => judge_cue(s, place, body, next),
+        VTTE => pass_boxes(s, body, next),
+        _ => Ok(()),
     }
-    if kind == VTTE {
-        return pass_boxes(s, body, next);
-    }
-    Verdict::Fine
 }
 
 // One more, if the kind is the one that is counted.
@@ -213,33 +185,19 @@ fn count_kind(count: usize, kind: u32, wanted: u32) -> usize
     requires { count < 0xFFFFFFFFFFFFFFFF }
     ensures { result ≡ pick (eqb kind wanted) (suc count) count }
 {
-    if kind == wanted {
-        return count + 1;
-    }
-    count
+    if kind == wanted { count + 1 } else { count }
 }
 
 // The verdict on a sample where a step gives no box.
 fn end_sample(t: Step, cues: usize, empties: usize) -> Verdict
     ensures { result ≡ stopped_by t then end_counts cues empties }
 {
-    let v = stopped_by(t);
-    let Verdict::Fine = v else {
-        return v;
-    };
-    if 1 < empties {
-        return refused(5, 0);
+    stopped_by(t)?;
+    match (cues, empties) {
+        (0, 0) => Reason::BoxMissing.refused(0),
+        (_, 0) | (0, 1) => Ok(()),
+        _ => Reason::NotAlone.refused(0),
     }
-    if empties == 0 {
-        if cues == 0 {
-            return refused(4, 0);
-        }
-        return Verdict::Fine;
-    }
-    if 0 < cues {
-        return refused(5, 0);
-    }
-    Verdict::Fine
 }
 
 // The verdict on a sample.
@@ -255,10 +213,7 @@ pub fn judge_sample(s: &[u8]) -> Verdict
         let Step::Box { kind, body, next } = t else {
             return end_sample(t, cues, empties);
         };
-        let v = judge_box(s, at, kind, body, next);
-        let Verdict::Fine = v else {
-            return v;
-        };
+        judge_box(s, at, kind, body, next)?;
         cues = count_kind(cues, kind, VTTC);
         empties = count_kind(empties, kind, VTTE);
         at = next;

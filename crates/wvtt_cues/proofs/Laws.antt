@@ -1,6 +1,6 @@
 -- Laws of specs/Cues.antt for the loops: where bodies stand, and the first cue.
 use Prim.Native.Nat.{ℕ, ◌≤◌}
-use mathlib.Core.Path.{◌≡◌, refl, ◌∙◌}
+use mathlib.Core.Path.{◌≡◌, refl, ap, ◌∙◌}
 use mathlib.Core.List.{List}
 use mathlib.Core.Bool.{Bool, true, false}
 use native.Mathlib.Omega.{arith}
@@ -13,8 +13,12 @@ use Rattle.boxes.specs.declared.Step.TheVariants.{Box, Refused as Stopped, End a
 use Rattle.boxes.specs.Boxes.{step_at, stopped_by, on_step, boxes_in, passed}
 use Rattle.boxes.proofs.Laws.{boxes-at, boxes-box, passed-box, passed-stop, NoBox}
 use Rattle.wvtt.specs.Kinds.{vttc, vsid, iden, sttg, payl}
-use Rattle.wvtt_cues.specs.declared.Part.{Part}
+use Rattle.boxes.specs.declared.Part.{Part}
 use Rattle.wvtt_cues.specs.declared.Places.{Places}
+use Rattle.verdict.specs.declared.Refusal.{Refusal}
+use Rattle.verdict.specs.Verdict.{Fine, Refused}
+use Rattle.wvtt_cues.specs.declared.Parts.{Parts}
+use Rattle.wvtt_cues.specs.Inner.{Whole, Refused as Broken}
 use Rattle.wvtt_cues.specs.Cues.{nowhere, placed, body_of, with_id, parts_of, if_whole, inner_of, cue_by, next_cue}
 use Rattle.wvtt_cues.specs.Terms.{places_of, ended}
 
@@ -79,6 +83,14 @@ module _ (s : List ℕ) (from end : ℕ) where
         body-stop sttg x.sttg s at end t e h,
         body-stop payl x.payl s at end t e h,
       )
+
+  -- so a refused header is the answer, and at the end the places give the cue
+  pub kept-refused : (at : ℕ) (x : Places) (t : Step) (r : Refusal) → step_at s at end ≡ t → NoBox t → Kept s from end at x → stopped_by t ≡ Refused r → Broken r ≡ inner_of s (boxes_in s from end)
+  kept-refused at x t r e h m q = rw q at (kept-stop at x t e h m)
+
+  pub kept-whole : (at : ℕ) (x : Places) (t : Step) (c : Parts) → step_at s at end ≡ t → NoBox t → Kept s from end at x → stopped_by t ≡ Fine → c ≡ with_id s x.vsid x.iden x.sttg x.payl
+      → Whole c ≡ inner_of s (boxes_in s from end)
+  kept-whole at x t c e h m q p = ap Whole p ∙ (rw q at (kept-stop at x t e h m))
 
 -- the first cue: no further box, a cue, a box of another kind
 pub next-stop : (s : List ℕ) (at end : ℕ) (t : Step) → step_at s at end ≡ t → NoBox t → next_cue s (boxes_in s at end) ≡ ended (stopped_by t)

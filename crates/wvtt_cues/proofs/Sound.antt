@@ -10,8 +10,7 @@ use lib.ListN.{length, length-take}
 use borrow.Author.Tests.{ltb-false, leb-false, eqb-true}
 use Rattle.base.specs.Choice.{pick, both}
 use Rattle.base.proofs.Choice.{by-test}
-use Rattle.verdict.specs.declared.Verdict.{Verdict}
-use Rattle.verdict.specs.declared.Verdict.TheVariants.{Fine}
+use Rattle.verdict.specs.Verdict.{Verdict, Fine}
 use Rattle.verdict.specs.Judgement.{◌gives◌at◌}
 use Rattle.verdict.proofs.Judgement.{both-fine, not-given, text-fine}
 use Rattle.fields.specs.BigEndian.{be}
@@ -22,7 +21,7 @@ use Rattle.boxes.specs.Boxes.{Boxes, clean, broken, box, boxes_in, passed, judge
 use Rattle.wvtt.specs.Kinds.{vttc, vsid, iden, sttg, payl, line, single}
 use Rattle.wvtt.specs.Sample.{judge_id, judge_text, judge_body, in_cue, end_cue, judge_cue, in_sample, end_sample, judge_sample}
 use Rattle.wvtt.specs.Sound.{Sound, AllSound}
-use Rattle.wvtt_cues.specs.declared.Part.{Part}
+use Rattle.boxes.specs.declared.Part.{Part}
 use Rattle.wvtt_cues.specs.Cues.{nowhere, placed, body_of, with_id, parts_of, text_of, held_by, cues_in, sample_cues}
 use Rattle.wvtt_cues.specs.Walk.{every_cue, SampleWhole, SampleSound}
 

@@ -10,17 +10,14 @@ use lib.ListN.{length}
 use borrow.Author.Tests.{eqb-true, eqb-false}
 use Rattle.base.specs.Choice.{pick}
 use Rattle.base.proofs.Choice.{by-test}
-use Rattle.verdict.specs.declared.Verdict.{Verdict}
-use Rattle.verdict.specs.declared.Verdict.TheVariants.{Fine, Refused as Fault}
+use Rattle.verdict.specs.Verdict.{Verdict, Fine, Refused as Fault}
 use Rattle.boxes.specs.declared.Step.{Step}
 use Rattle.boxes.specs.declared.Step.TheVariants.{Box, Refused as Stopped, End as Ended}
 use Rattle.boxes.specs.Boxes.{step_at, Boxes, clean, broken, box, on_step, boxes_f, boxes_in, passed}
 use Rattle.boxes.proofs.Laws.{step-box, boxes-at, boxes-box, NoBox}
 use Rattle.wvtt.specs.Kinds.{vttc, iden, sttg, payl}
-use Rattle.wvtt_cues.specs.declared.Parts.{Parts}
-use Rattle.wvtt_cues.specs.declared.Part.{Part}
-use Rattle.wvtt_cues.specs.declared.Held.{Held}
-use Rattle.wvtt_cues.specs.declared.Held.TheVariants.{Cue, Refused, End}
+use Rattle.boxes.specs.declared.Part.{Part}
+use Rattle.wvtt_cues.specs.Held.{Held, Cue, Refused, End}
 use Rattle.wvtt_cues.specs.Cues.{nowhere, placed, body_of, with_id, parts_of, if_whole, inner_of, held_then, cues_in, cue_by, next_cue}
 use Rattle.wvtt_cues.specs.Walk.{Within, Inside, held_from, Means, NextMeans}
 use Rattle.wvtt_cues.proofs.Laws.{next-stop, next-found, next-other}
@@ -122,12 +119,6 @@ abbrev pub NoCue : Held → Type 0
 NoCue (Cue c n) = ⊥
 NoCue (Refused r) = Unit {0}
 NoCue End = Unit {0}
-
--- in the `else` of `let Held::Cue { .. } = h else`
-pub not-cue : (h : Held) → ((c : Parts) (n : ℕ) → h ≡ Cue c n → ⊥) → NoCue h
-not-cue (Cue c n) t = absurd (t c n refl)
-not-cue (Refused r) t = tt
-not-cue End t = tt
 
 pub next-none : (s : List ℕ) (from : ℕ) (h : Held) → h ≡ next_cue s (boxes_in s from (length s)) → NoCue h → held_from s from ≡ []
 next-none s from (Cue c n) e t = absurd t

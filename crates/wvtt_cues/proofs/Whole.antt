@@ -1,25 +1,24 @@
 -- The walk over a sample without fault refuses nothing.
 use Prim.Native.Nat.{ℕ, zero, suc, ◌-◌, ◌<◌}
-use mathlib.Core.Path.{◌≡◌, refl, sym, ap, ◌∙◌, subst}
+use mathlib.Core.Path.{◌≡◌, refl, sym, subst}
 use mathlib.Core.List.{List, [], ◌∷◌}
-use mathlib.Core.Bool.{Bool, true, false}
+use mathlib.Core.Bool.{true}
 use native.Mathlib.Omega.{arith}
 use native.Mathlib.Nat.{not-suc-le-zero}
 use lib.Dec.{eqb}
 use lib.ListN.{length}
 use borrow.Author.Tests.{eqb-true, eqb-false}
 use Rattle.base.proofs.Choice.{by-test}
-use Rattle.verdict.specs.declared.Verdict.{Verdict}
-use Rattle.verdict.specs.declared.Verdict.TheVariants.{Fine}
+use Rattle.verdict.specs.Verdict.{Fine}
 use Rattle.verdict.proofs.Judgement.{both-fine}
 use Rattle.boxes.specs.declared.Step.{Step}
 use Rattle.boxes.specs.declared.Step.TheVariants.{Box, Refused as Stopped, End as Ended}
-use Rattle.boxes.specs.Boxes.{step_at, stopped_by, on_step, boxes_in, judged, passed}
+use Rattle.boxes.specs.Boxes.{step_at, boxes_in, judged, passed}
 use Rattle.boxes.proofs.Laws.{step-box, boxes-at, boxes-box}
 use Rattle.wvtt.specs.Kinds.{vttc}
 use Rattle.wvtt.specs.Sample.{judge_cue, in_sample, end_sample, judge_sample}
 use Rattle.wvtt_cues.specs.Cues.{parts_of, if_whole, cue_by, next_cue}
-use Rattle.wvtt_cues.specs.Walk.{FineFrom, Onward, WalkIsWhole}
+use Rattle.wvtt_cues.specs.Walk.{Onward, WalkIsWhole}
 use Rattle.wvtt_cues.proofs.Laws.{next-stop, next-found, next-other}
 use Rattle.wvtt_cues.proofs.Sound.{cue-whole}
 

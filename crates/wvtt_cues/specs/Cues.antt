@@ -2,18 +2,15 @@
 use Rattle.std.specs.Prelude.{ℕ, ◌-◌, List, [], ◌∷◌, eqb, length}
 use Rattle.std.proofs.Math.Option.{none, some}
 use Rattle.base.specs.Choice.{pick}
-use Rattle.verdict.specs.declared.Verdict.{Verdict}
-use Rattle.verdict.specs.declared.Verdict.TheVariants.{Fine, Refused}
+use Rattle.verdict.specs.Verdict.{Verdict, Fine, Refused}
 use Rattle.fields.specs.BigEndian.{be}
 use Rattle.boxes.specs.Boxes.{Boxes, clean, broken, box, boxes_in, passed, part}
 use Rattle.timeline.specs.Cues.{Body}
 use Rattle.wvtt.specs.Kinds.{vttc, vsid, iden, sttg, payl}
-use Rattle.wvtt_cues.specs.declared.Part.{Part}
+use Rattle.boxes.specs.declared.Part.{Part}
 use Rattle.wvtt_cues.specs.declared.Parts.{Parts}
-use Rattle.wvtt_cues.specs.declared.Inner.{Inner}
-use Rattle.wvtt_cues.specs.declared.Inner.TheVariants.{Whole, Refused as Broken}
-use Rattle.wvtt_cues.specs.declared.Held.{Held}
-use Rattle.wvtt_cues.specs.declared.Held.TheVariants.{Cue, Refused as Stopped, End}
+use Rattle.wvtt_cues.specs.Inner.{Inner, Whole, Refused as Broken}
+use Rattle.wvtt_cues.specs.Held.{Held, Cue, Refused as Stopped, End}
 
 -- no bytes
 unfoldable pub nowhere : Part

@@ -1,3 +1,5 @@
+pub mod Held
+pub mod Inner
 pub mod Cues
 pub mod Walk
 pub mod Terms

@@ -1,11 +1,9 @@
 -- Terms of the contracts of private functions.
 use Rattle.std.specs.Prelude.{ℕ}
-use Rattle.verdict.specs.declared.Verdict.{Verdict}
-use Rattle.verdict.specs.declared.Verdict.TheVariants.{Fine, Refused}
+use Rattle.verdict.specs.Verdict.{Verdict, Fine, Refused}
 use Rattle.wvtt.specs.Kinds.{vsid, iden, sttg, payl}
 use Rattle.wvtt_cues.specs.declared.Places.{Places}
-use Rattle.wvtt_cues.specs.declared.Held.{Held}
-use Rattle.wvtt_cues.specs.declared.Held.TheVariants.{Refused as Stopped, End}
+use Rattle.wvtt_cues.specs.Held.{Held, Refused as Stopped, End}
 use Rattle.wvtt_cues.specs.Cues.{placed}
 
 -- the places of the four bodies, with a box of kind j

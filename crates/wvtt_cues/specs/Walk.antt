@@ -2,16 +2,15 @@
 -- proofs/Walk.antt, proofs/Sound.antt and proofs/Whole.antt.
 use Rattle.std.specs.Prelude.{ℕ, ◌≤◌, ◌<◌, ◌≡◌, List, [], ◌∷◌, eqb, length}
 use Rattle.base.specs.Choice.{keep}
-use Rattle.verdict.specs.declared.Verdict.TheVariants.{Fine}
+use Rattle.verdict.specs.Verdict.{Fine}
 use Rattle.boxes.specs.Boxes.{Boxes, clean, broken, box, boxes_in, judged}
 use Rattle.timeline.specs.Cues.{Body}
 use Rattle.wvtt.specs.Kinds.{vttc}
 use Rattle.wvtt.specs.Sample.{judge_sample, in_sample, end_sample}
 use Rattle.wvtt.specs.Sound.{AllSound}
-use Rattle.wvtt_cues.specs.declared.Part.{Part}
+use Rattle.boxes.specs.declared.Part.{Part}
 use Rattle.wvtt_cues.specs.declared.Parts.{Parts}
-use Rattle.wvtt_cues.specs.declared.Held.{Held}
-use Rattle.wvtt_cues.specs.declared.Held.TheVariants.{Cue, Refused, End}
+use Rattle.wvtt_cues.specs.Held.{Held, Cue, Refused, End}
 use Rattle.wvtt_cues.specs.Cues.{parts_of, held_by, cues_in, sample_cues, next_cue}
 
 -- a part lies within the first l bytes

@@ -1,6 +1,6 @@
 -- What a reading of an entry means: the statements of specs/Held.antt.
 use Prim.Native.Nat.{ℕ, zero, suc, ◌+◌, ◌≤◌}
-use mathlib.Core.Path.{◌≡◌, refl, sym, ◌∙◌}
+use mathlib.Core.Path.{◌≡◌, refl, sym, ap, ◌∙◌}
 use mathlib.Core.Logic.{inl, inr, ⊎_elim}
 use mathlib.Core.List.{List, [], ◌∷◌}
 use mathlib.Core.Bool.{Bool, true, false, not}
@@ -11,8 +11,7 @@ use borrow.Author.Tests.{eq-eqb, eqb-true, eqb-false}
 use Rattle.base.specs.Choice.{both, any_of}
 use Rattle.base.proofs.Choice.{true-false, by-test}
 use Rattle.base.proofs.Tests.{one-of-yes}
-use Rattle.verdict.specs.declared.Verdict.{Verdict}
-use Rattle.verdict.specs.declared.Verdict.TheVariants.{Fine, Refused as Faulty}
+use Rattle.verdict.specs.Verdict.{Verdict, Fine, Refused as Faulty}
 use Rattle.verdict.specs.Judgement.{◌gives◌at◌}
 use Rattle.verdict.proofs.Judgement.{both-fine, not-given, text-fine}
 use Rattle.fields.specs.BigEndian.{be}
@@ -22,8 +21,9 @@ use Rattle.boxes.specs.Boxes.{Boxes, clean, broken, box, step_at, on_step, boxes
 use Rattle.boxes.proofs.Laws.{step-box, step-reads}
 use Rattle.text.specs.Rules.{configuration_text, label_text}
 use Rattle.text.specs.Beginnings.{configuration_begun, label_begun}
-use Rattle.wvtt_entry.specs.declared.Found.{Found}
-use Rattle.wvtt_entry.specs.declared.Part.{Part}
+use Rattle.std.specs.Prelude.{Option, Some, None}
+use Rattle.wvtt_entry.specs.Read.{Whole}
+use Rattle.boxes.specs.declared.Part.{Part}
 use Rattle.wvtt_entry.specs.Entry.{vtt_c, vlab, judge_content, in_entry, end_entry, judge_entry}
 use Rattle.wvtt_entry.specs.Reading.{first_body, entry_boxes, held_by, unless_faulty, read_entry}
 use Rattle.wvtt_entry.specs.Held.{Stands, BodyOf, LabelOf, Holds, EntryHolds}
@@ -31,39 +31,33 @@ use Rattle.wvtt_entry.proofs.Laws.{entry-parts}
 
 -- ---- boxes that stand among others
 
--- what stands, by what the first body is
-stands-there : (k : ℕ) (bs : Boxes) (x : Found) → first_body k bs ≡ x → Stands k x.part.from x.part.end bs → Stands k (first_body k bs).part.from (first_body k bs).part.end bs
-stands-there k bs x e s = rw e s
-
 -- the first body is one that stands there
-found-stands : (k : ℕ) (bs : Boxes) → (first_body k bs).there ≡ true → Stands k (first_body k bs).part.from (first_body k bs).part.end bs
+found-stands : (k : ℕ) (bs : Boxes) (x : Part) → first_body k bs ≡ Some x → Stands k x.from x.end bs
 unfolding first_body Stands
-found-stands k clean h = true-false false h refl
-found-stands k (broken r) h = true-false false h refl
-found-stands k (box p j b n rest) h =
+found-stands k clean x h = let z : ◌≡◌ {A = ℕ} 0 1 = cc in absurd (omega arith)
+found-stands k (broken r) x h = let z : ◌≡◌ {A = ℕ} 0 1 = cc in absurd (omega arith)
+found-stands k (box p j b n rest) x h =
     by-test (eqb j k)
-    (λ e. rw e (inl (eqb-true j k e, refl, refl)))
-    (λ e. let q : first_body k (box p j b n rest) ≡ first_body k rest = rw e refl in
-    stands-there k (box p j b n rest) (first_body k rest) q (inr (found-stands k rest (rw q at h))))
+    (λ e. let q = rw e at h in inl (eqb-true j k e, ap from_of q, ap end_of q))
+    (λ e. inr (found-stands k rest x (rw e at h)))
+  where
+    from_of : Option Part → ℕ
+    from_of (Some y) = y.from
+    from_of None = 0
+
+    end_of : Option Part → ℕ
+    end_of (Some y) = y.end
+    end_of None = 0
 
 -- where none is found, none stands
-none-stands : (k b n : ℕ) (bs : Boxes) → (first_body k bs).there ≡ false → Stands k b n bs → ⊥
+none-stands : (k b n : ℕ) (bs : Boxes) → first_body k bs ≡ None → Stands k b n bs → ⊥
 unfolding first_body Stands
 none-stands k b n clean h w = w
 none-stands k b n (broken r) h w = w
 none-stands k b n (box p j c m rest) h w =
     by-test (eqb j k)
-    (λ e. true-false true refl (rw e at h))
+    (λ e. let q = rw e at h in let z : ◌≡◌ {A = ℕ} 0 1 = cc in absurd (omega arith))
     (λ e. ⊎_elim (λ u. eqb-false j k e u.0) (none-stands k b n rest (rw e at h)) w)
-
-none_from : (k : ℕ) (bs : Boxes) → (first_body k bs).there ≡ false → ((first_body k bs).part.from ≡ 0) × ((first_body k bs).part.end ≡ 0)
-unfolding first_body
-none_from k clean h = (refl, refl)
-none_from k (broken r) h = (refl, refl)
-none_from k (box p j b n rest) h =
-    by-test (eqb j k)
-    (λ e. true-false true refl (rw e at h))
-    (λ e. rw e (none_from k rest (rw e at h)))
 
 -- a box of a container from `from` to `end`: its header, and its body behind it
 record Lying (s : List ℕ) (from end k b n : ℕ) : Type 0 where
@@ -140,13 +134,13 @@ module _ (e : List ℕ) where
         w
 
   -- a configuration is there
-  configured : (bs : Boxes) (before : List ℕ) → judged (in_entry e) end_entry before bs ≡ Fine → among vtt_c before ≡ false → (first_body vtt_c bs).there ≡ true
+  configured : (bs : Boxes) (before : List ℕ) → judged (in_entry e) end_entry before bs ≡ Fine → among vtt_c before ≡ false → (x : Part) × (first_body vtt_c bs ≡ Some x)
   unfolding judged first_body among
   configured clean before h a = let z = not-given (not (among vtt_c before)) 4 0 h in true-false true refl (rw a at z)
   configured (broken r) before h a = let z : ◌≡◌ {A = ℕ} 0 1 = cc in absurd (omega arith)
   configured (box p j b n rest) before h a =
       let x = both-fine (in_entry e before p j b n) (judged (in_entry e) end_entry (j ∷ before) rest) h in
-      by-test (eqb j vtt_c) (λ q. rw q) (λ q. rw q (configured rest (j ∷ before) x.1 (rw (q, a))))
+      by-test (eqb j vtt_c) (λ q. (record { from = b; end = n }, rw q)) (λ q. let w = configured rest (j ∷ before) x.1 (rw (q, a)) in (w.0, rw q w.1))
 
   entry-lies : (k b n : ℕ) → Stands k b n (entry_boxes e) → Lying e 16 (length e) k b n
   unfolding entry_boxes
@@ -154,10 +148,9 @@ module _ (e : List ℕ) where
 
   -- a body that is found, with the rule of its text
   body_of : (k : ℕ) (rule : List ℕ → Bool) → any_of (eqb k vtt_c) (eqb k vlab) ≡ true → ((p b n : ℕ) → judge_content e p k b n ≡ Fine → rule (part e b n) ≡ true)
-      → judged (in_entry e) end_entry [] (entry_boxes e) ≡ Fine → (first_body k (entry_boxes e)).there ≡ true → BodyOf e k rule (first_body k (entry_boxes e)).part
-  body_of k rule single right h q =
-      let x : Part = (first_body k (entry_boxes e)).part in
-      let w : Stands k x.from x.end (entry_boxes e) = found-stands k (entry_boxes e) q in
+      → judged (in_entry e) end_entry [] (entry_boxes e) ≡ Fine → (x : Part) → first_body k (entry_boxes e) ≡ Some x → BodyOf e k rule x
+  body_of k rule single right h x q =
+      let w : Stands k x.from x.end (entry_boxes e) = found-stands k (entry_boxes e) x q in
       let l = entry-lies k x.from x.end w in
       let t = content-fine k x.from x.end (entry_boxes e) [] h w in
       record {
@@ -183,17 +176,16 @@ label-right : (e : List ℕ) (p b n : ℕ) → judge_content e p vlab b n ≡ Fi
 unfolding judge_content
 label-right e p b n h = text-fine label_text label_begun p (part e b n) h
 
-label_of : (e : List ℕ) → judged (in_entry e) end_entry [] (entry_boxes e) ≡ Fine → (t : Bool) → (first_body vlab (entry_boxes e)).there ≡ t → LabelOf e t (first_body vlab (entry_boxes e)).part
-label_of e h true q = body_of e vlab label_text refl (label-right e) h q
-label_of e h false q =
-    let z = none_from vlab (entry_boxes e) q in
-    (z.0, z.1, λ b n w. none-stands vlab b n (entry_boxes e) q w)
+label_of : (e : List ℕ) → judged (in_entry e) end_entry [] (entry_boxes e) ≡ Fine → (t : Option Part) → first_body vlab (entry_boxes e) ≡ t → LabelOf e t
+label_of e h (Some x) q = body_of e vlab label_text refl (label-right e) h x q
+label_of e h None q = λ b n w. none-stands vlab b n (entry_boxes e) q w
 
-held-holds : (e : List ℕ) → judge_entry e ≡ Fine → Holds e (held_by e)
+held-holds : (e : List ℕ) → judge_entry e ≡ Fine → Holds e (Whole (held_by e))
 unfolding held_by among
 held-holds e h =
     let w = (entry-parts e h).1 in
-    (h, refl, body_of e vtt_c configuration_text refl (configuration-right e) w (configured e (entry_boxes e) [] w refl), label_of e w (first_body vlab (entry_boxes e)).there refl)
+    let c = configured e (entry_boxes e) [] w refl in
+    (h, refl, rw c.1 (body_of e vtt_c configuration_text refl (configuration-right e) w c.0 c.1), label_of e w (first_body vlab (entry_boxes e)) refl)
 
 pub entry-holds : EntryHolds
 unfolding read_entry

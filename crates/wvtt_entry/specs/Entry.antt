@@ -1,8 +1,7 @@
 -- The judgement of a `wvtt` sample entry: 16 bytes (size, type, 6 unjudged, data reference index), then boxes. Document 01, 'WebVTT samples'.
 use Rattle.std.specs.Prelude.{ℕ, List, [], not, eqb, length}
 use Rattle.base.specs.Choice.{pick, both, any_of}
-use Rattle.verdict.specs.declared.Verdict.{Verdict}
-use Rattle.verdict.specs.declared.Verdict.TheVariants.{Fine}
+use Rattle.verdict.specs.Verdict.{Verdict, Fine}
 use Rattle.verdict.specs.Judgement.{◌gives◌at◌, text_at, ◌then◌}
 use Rattle.viable.specs.FirstBad.{judged_by}
 use Rattle.boxes.specs.Boxes.{boxes_in, judged, among, part}

@@ -1,12 +1,11 @@
 -- What holds of an entry that is read. Proved in proofs/Held.antt.
-use Rattle.std.specs.Prelude.{ℕ, ◌+◌, ◌≤◌, ◌≡◌, List, ◌⊎◌, Bool, true, false, length}
-use Rattle.verdict.specs.declared.Verdict.TheVariants.{Fine, Refused as Faulty}
+use Rattle.std.specs.Prelude.{ℕ, ◌+◌, ◌≤◌, ◌≡◌, List, ◌⊎◌, Bool, true, Option, Some, None, length}
+use Rattle.verdict.specs.Verdict.{Fine, Refused as Faulty}
 use Rattle.fields.specs.BigEndian.{be}
 use Rattle.boxes.specs.Boxes.{Boxes, clean, broken, box, part}
 use Rattle.text.specs.Rules.{configuration_text, label_text}
-use Rattle.wvtt_entry.specs.declared.Part.{Part}
-use Rattle.wvtt_entry.specs.declared.Entry.{Entry}
-use Rattle.wvtt_entry.specs.declared.Entry.TheVariants.{Whole, Refused}
+use Rattle.boxes.specs.declared.Part.{Part}
+use Rattle.wvtt_entry.specs.Read.{Read, Whole, Refused}
 use Rattle.wvtt_entry.specs.Entry.{vtt_c, vlab, judge_entry}
 use Rattle.wvtt_entry.specs.Reading.{entry_boxes, read_entry}
 
@@ -31,13 +30,13 @@ pub record BodyOf (e : List ℕ) (k : ℕ) (rule : List ℕ → Bool) (x : Part)
   pub right : rule (part e x.from x.end) ≡ true
 
 -- a label is the body of the `vlab`; where there is none, no `vlab` stands among the boxes
-abbrev pub LabelOf : List ℕ → Bool → Part → Type 0
-LabelOf e true x = BodyOf e vlab label_text x
-LabelOf e false x = (x.from ≡ 0) × (x.end ≡ 0) × ((b n : ℕ) → Stands vlab b n (entry_boxes e) → ⊥)
+abbrev pub LabelOf : List ℕ → Option Part → Type 0
+LabelOf e (Some x) = BodyOf e vlab label_text x
+LabelOf e None = (b n : ℕ) → Stands vlab b n (entry_boxes e) → ⊥
 
 -- what an answer means: the entry has no fault, and these are its index, configuration and label; or the entry has this fault
-abbrev pub Holds : List ℕ → Entry → Type 0
-Holds e (Whole i c b l) = (judge_entry e ≡ Fine) × (i ≡ be 2 e 14) × BodyOf e vtt_c configuration_text c × LabelOf e b l
+abbrev pub Holds : List ℕ → Read → Type 0
+Holds e (Whole x) = (judge_entry e ≡ Fine) × (x.index ≡ be 2 e 14) × BodyOf e vtt_c configuration_text x.configuration × LabelOf e x.label
 Holds e (Refused r) = judge_entry e ≡ Faulty r
 
 -- the answer of `read_entry`

@@ -1,3 +1,4 @@
 pub mod Entry
+pub mod Read
 pub mod Reading
 pub mod Held

@@ -8,12 +8,10 @@ use native.Mathlib.Omega.{arith}
 use lib.Dec.{ltb}
 use borrow.Author.Tests.{lt-ltb, le-ltb, ltb-false}
 use Rattle.verdict.specs.declared.Refusal.{Refusal}
-use Rattle.verdict.specs.declared.Verdict.{Verdict}
-use Rattle.verdict.specs.declared.Verdict.TheVariants.{Fine, Refused as Faulty}
+use Rattle.verdict.specs.Verdict.{Verdict, Fine, Refused as Faulty}
 use Rattle.verdict.specs.Judgement.{fault, ◌gives◌at◌, ◌then◌}
 use Rattle.verdict.proofs.Judgement.{both-fine, not-given}
-use Rattle.wvtt_entry_write.specs.declared.Written.{Written}
-use Rattle.wvtt_entry_write.specs.declared.Written.TheVariants.{Done, Refused}
+use Rattle.wvtt_entry_write.specs.Written.{Written, Done, Refused}
 use Rattle.wvtt_entry_write.specs.Writing.{entry_size, judge_texts, judge_written, unless_faulty, room_of, written_of, after}
 use Rattle.wvtt_entry_write.specs.Terms.{sized}
 use Rattle.wvtt_entry_write.specs.Statements.{RoomLaw}

@@ -8,21 +8,38 @@ use native.Mathlib.Omega.{arith}
 use native.Mathlib.Nat.{zero-add, sub-zero}
 use lib.ListN.{length, length-append}
 use lib.Seq.{take-length}
-use borrow.Author.Tests.{lt-ltb}
+use borrow.Author.Tests.{lt-ltb, ltb-true, ltb-false}
+use lib.Dec.{ltb}
 use Rattle.base.specs.Over.{over, wrote}
 use Rattle.base.proofs.Over.{over-wrote, wrote-over, wrote-more}
 use Rattle.base.proofs.Choice.{true-false}
-use Rattle.verdict.specs.Judgement.{fault}
+use Rattle.verdict.specs.Judgement.{fault, ◌gives◌at◌}
+use Rattle.verdict.specs.declared.Refusal.{Refusal}
 use Rattle.fields.specs.BigEndian.{bytes}
 use Rattle.fields.proofs.BigEndian.{length-bytes}
 use Rattle.boxes.specs.Boxes.{part}
 use Rattle.boxes.specs.Written.{box_bytes, item_bytes}
 use Rattle.boxes.proofs.Written.{length-box}
-use Rattle.wvtt_entry_write.specs.declared.Written.TheVariants.{Refused}
-use Rattle.wvtt_entry_write.specs.Writing.{label_of, entry_items, entry_size, entry_head, entry_bytes}
+use Rattle.wvtt_entry_write.specs.Written.{Done, Refused}
+use Rattle.wvtt_entry_write.specs.Writing.{unless_faulty, label_of, entry_items, entry_size, entry_head, entry_bytes}
 use Rattle.wvtt_entry_write.specs.Terms.{sized}
 
 -- ---- sizes
+
+-- a text above the limit, and one that is not
+pub limit-over : (n : ℕ) (r : Refusal) → sized n ≡ Refused r → (4294967295 < n) × (Refused r ≡ Refused (fault 9 0))
+limit-over n r e = go (ltb 4294967295 n) refl e
+  where
+    go : (b : Bool) → ltb 4294967295 n ≡ b → unless_faulty (b gives 9 at 0) n ≡ Refused r → (4294967295 < n) × (Refused r ≡ Refused (fault 9 0))
+    go true q e = (ltb-true 4294967295 n q, sym e)
+    go false q e = let z : ◌≡◌ {A = ℕ} 0 1 = cc in absurd (omega arith)
+
+pub limit-under : (n m : ℕ) → sized n ≡ Done m → (n ≡ m) × (n ≤ 4294967295)
+limit-under n m e = go (ltb 4294967295 n) refl e
+  where
+    go : (b : Bool) → ltb 4294967295 n ≡ b → unless_faulty (b gives 9 at 0) n ≡ Done m → (n ≡ m) × (n ≤ 4294967295)
+    go true q e = let z : ◌≡◌ {A = ℕ} 0 1 = cc in absurd (omega arith)
+    go false q e = (cc, ltb-false 4294967295 n q)
 
 pub size-over : (c : List ℕ) (l : Option (List ℕ)) → 4294967295 < length c → Refused (fault 9 0) ≡ sized (entry_size c l)
 unfolding entry_size

@@ -7,7 +7,7 @@ use mathlib.Core.Option.{Option, none, some}
 use native.Mathlib.Omega.{arith}
 use lib.Dec.{ltb}
 use lib.ListN.{length, length-append}
-use Rattle.verdict.specs.declared.Verdict.TheVariants.{Fine}
+use Rattle.verdict.specs.Verdict.{Fine}
 use Rattle.verdict.specs.Judgement.{text_at, ◌gives◌at◌}
 use Rattle.verdict.proofs.Judgement.{both-fine, then-fine, text-fine, text-right}
 use Rattle.viable.specs.FirstBad.{judged_by}
@@ -21,9 +21,9 @@ use Rattle.text.specs.Beginnings.{configuration_begun, label_begun}
 use Rattle.entry_head.specs.Head.{judge_head}
 use Rattle.entry_head.proofs.Laws.{head-fine}
 use Rattle.wvtt_entry.specs.Entry.{wvtt, vtt_c, vlab, judge_content, in_entry, end_entry, judge_entry}
-use Rattle.wvtt_entry.specs.Reading.{first_body, entry_boxes, held_by, read_entry}
-use Rattle.wvtt_entry_write.specs.Writing.{label_of, entry_items, entry_size, entry_head, entry_bytes, judge_label, judge_texts, judge_written}
-use Rattle.wvtt_entry_write.specs.Statements.{Gives, ReadsBack}
+use Rattle.wvtt_entry.specs.Reading.{first_body, or_nowhere, entry_boxes, held_by, read_entry}
+use Rattle.wvtt_entry_write.specs.Writing.{entry_items, entry_size, entry_head, entry_bytes, judge_label, judge_texts, judge_written}
+use Rattle.wvtt_entry_write.specs.Statements.{label_at, Gives, ReadsBack}
 use Rattle.wvtt_entry_write.proofs.Laws.{size-most, length-head, length-entry}
 use Rattle.wvtt_entry_write.proofs.Answers.{size_fits}
 
@@ -149,20 +149,19 @@ module _ (c : List ℕ) (l : Option (List ℕ)) (index : ℕ) (h : judge_written
 -- ---- what reading gives
 
 gives-by : (e c : List ℕ) (l : Option (List ℕ)) (index : ℕ) (bs : Boxes) → judge_entry e ≡ Fine → entry_boxes e ≡ bs → be 2 e 14 ≡ index
-    → part e (first_body vtt_c bs).part.from (first_body vtt_c bs).part.end ≡ c
-    → label_of (first_body vlab bs).there (part e (first_body vlab bs).part.from (first_body vlab bs).part.end) ≡ l
+    → part e (or_nowhere (first_body vtt_c bs)).from (or_nowhere (first_body vtt_c bs)).end ≡ c
+    → label_at e (first_body vlab bs) ≡ l
     → Gives e c l index (read_entry e)
 unfolding read_entry held_by
 gives-by e c l index bs h q i x y = rw (h, q) (i, x, y)
 
-label-given : (c : List ℕ) (l : Option (List ℕ)) (index : ℕ) → let bs = laid 16 (entry_items c l) in
-    label_of (first_body vlab bs).there (part (entry_bytes c l index) (first_body vlab bs).part.from (first_body vlab bs).part.end) ≡ l
+label-given : (c : List ℕ) (l : Option (List ℕ)) (index : ℕ) → label_at (entry_bytes c l index) (first_body vlab (laid 16 (entry_items c l))) ≡ l
 unfolding entry_items laid first_body
 label-given c none index = refl
 label-given c (some t) index = ap some (label-part c t index)
 
 configuration-given : (c : List ℕ) (l : Option (List ℕ)) (index : ℕ) → let bs = laid 16 (entry_items c l) in
-    part (entry_bytes c l index) (first_body vtt_c bs).part.from (first_body vtt_c bs).part.end ≡ c
+    part (entry_bytes c l index) (or_nowhere (first_body vtt_c bs)).from (or_nowhere (first_body vtt_c bs)).end ≡ c
 unfolding entry_items laid first_body
 configuration-given c l index = configuration-part c l index
 

@@ -1,7 +1,7 @@
 -- Terms of the contracts of private functions.
 use Rattle.std.specs.Prelude.{ℕ, ltb}
 use Rattle.verdict.specs.Judgement.{◌gives◌at◌}
-use Rattle.wvtt_entry_write.specs.declared.Written.{Written}
+use Rattle.wvtt_entry_write.specs.Written.{Written}
 use Rattle.wvtt_entry_write.specs.Writing.{unless_faulty}
 
 -- this size, or 9 where 4 bytes do not hold it

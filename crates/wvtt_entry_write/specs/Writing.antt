@@ -3,8 +3,7 @@ use Rattle.std.specs.Prelude.{ℕ, ◌+◌, List, [], ◌∷◌, ◌++◌, Bool,
 use Rattle.std.proofs.Math.Option.{Option, none, some}
 use Rattle.base.specs.Choice.{pick}
 use Rattle.base.specs.Over.{over}
-use Rattle.verdict.specs.declared.Verdict.{Verdict}
-use Rattle.verdict.specs.declared.Verdict.TheVariants.{Fine, Refused as Faulty}
+use Rattle.verdict.specs.Verdict.{Verdict, Fine, Refused as Faulty}
 use Rattle.verdict.specs.Judgement.{fault, text_at, ◌gives◌at◌, ◌then◌}
 use Rattle.viable.specs.FirstBad.{judged_by}
 use Rattle.fields.specs.BigEndian.{bytes}
@@ -12,8 +11,7 @@ use Rattle.boxes.specs.Written.{Item, item_bytes}
 use Rattle.text.specs.Rules.{configuration_text, label_text}
 use Rattle.text.specs.Beginnings.{configuration_begun, label_begun}
 use Rattle.wvtt_entry.specs.Entry.{wvtt, vtt_c, vlab}
-use Rattle.wvtt_entry_write.specs.declared.Written.{Written}
-use Rattle.wvtt_entry_write.specs.declared.Written.TheVariants.{Done, Refused}
+use Rattle.wvtt_entry_write.specs.Written.{Written, Done, Refused}
 
 -- a label, if there is one
 abbrev pub label_of : Bool → List ℕ → Option (List ℕ)

@@ -9,75 +9,58 @@ ghost use Rattle.wvtt_entry_write.specs.Terms.{sized};
 
 use fields::{put16, put32};
 use text::{judge_configuration, judge_label};
-use verdict::{Refusal, Verdict, fault_at, text_at};
+use verdict::{Reason, Refusal, Verdict, text_at};
 use wvtt_entry::{CONFIGURATION, LABEL, WVTT};
 use wvtt_write::{put_header, put_text};
-
-// The bytes of an entry; or why there is none.
-#[derive(Clone, Copy)]
-pub enum Written {
-    Done(usize),
-    Refused(Refusal),
-}
 
 // The largest size of a box.
 const LIMIT: usize = 4294967295;
 
 // This size, or 9 above the largest.
-fn limit_size(n: usize) -> Written
+fn limit_size(n: usize) -> Result<usize, Refusal>
     ensures { result ≡ sized n }
 {
     if LIMIT < n {
-        return Written::Refused(fault_at(9, 0));
+        Err(Reason::PastLimit.fault_at(0))
+    } else {
+        Ok(n)
     }
-    Written::Done(n)
 }
 
 // The size of an entry with these texts. No sum wraps: a text above the limit is refused before it is counted.
-fn entry_size(configuration: &[u8], labelled: bool, label: &[u8]) -> Written
+fn entry_size(configuration: &[u8], labelled: bool, label: &[u8]) -> Result<usize, Refusal>
     ensures { result ≡ sized (entry_size configuration.now (label_of labelled label.now)) }
 {
-    let n = configuration.len();
-    if LIMIT < n {
-        return Written::Refused(fault_at(9, 0));
-    }
+    let n = limit_size(configuration.len())?;
     if labelled {
-        let m = label.len();
-        if LIMIT < m {
-            return Written::Refused(fault_at(9, 0));
-        }
-        return limit_size(24 + n + (8 + m));
+        let m = limit_size(label.len())?;
+        limit_size(24 + n + (8 + m))
+    } else {
+        limit_size(24 + n)
     }
-    limit_size(24 + n)
 }
 
 // The texts by their rules: the configuration, and the label if there is one.
+#[tactic(auto, unfolding(crate::specs::Writing::judge_texts))]
 fn judge_texts(configuration: &[u8], labelled: bool, label: &[u8]) -> Verdict
     ensures { result ≡ judge_texts configuration.now (label_of labelled label.now) }
 {
-    let v = text_at(0, judge_configuration(configuration));
-    let Verdict::Fine = v else {
-        return v;
-    };
+    text_at(0, judge_configuration(configuration))?;
     if labelled {
-        return text_at(1, judge_label(label));
+        text_at(1, judge_label(label))
+    } else {
+        Ok(())
     }
-    Verdict::Fine
 }
 
 // The bytes that an entry with these texts needs, or why it cannot be written.
-pub fn entry_room(configuration: &[u8], labelled: bool, label: &[u8]) -> Written
+// A flag beside the label, as the C interface gives them.
+pub fn entry_room(configuration: &[u8], labelled: bool, label: &[u8]) -> Result<usize, Refusal>
     ensures { result ≡ room_of configuration.now (label_of labelled label.now) }
 {
-    let size = entry_size(configuration, labelled, label);
-    let Written::Done(n) = size else {
-        return size;
-    };
-    let v = judge_texts(configuration, labelled, label);
-    let Verdict::Refused(why) = v else {
-        return Written::Done(n);
-    };
-    Written::Refused(why)
+    let size = entry_size(configuration, labelled, label)?;
+    judge_texts(configuration, labelled, label)?;
+    Ok(size)
 }
 
 // The fixed bytes of an entry.
@@ -133,16 +116,13 @@ pub fn write_entry(
     label: &[u8],
     index: u16,
     out: &mut [u8],
-) -> Written
+) -> Result<usize, Refusal>
     ensures value { result ≡ written_of configuration.now (label_of labelled label.now) (length out.old) }
     ensures out_after { out.new ≡ after result (entry_bytes configuration.now (label_of labelled label.now) index) out.old }
 {
-    let room = entry_room(configuration, labelled, label);
-    let Written::Done(n) = room else {
-        return room;
-    };
+    let n = entry_room(configuration, labelled, label)?;
     if out.len() < n {
-        return Written::Refused(fault_at(15, 0));
+        return Err(Reason::NoRoom.fault_at(0));
     }
     put_entry(
         &mut *out,
@@ -150,7 +130,7 @@ pub fn write_entry(
         configuration,
         labelled,
         label,
-        index as u32,
+        u32::from(index),
     );
-    Written::Done(n)
+    Ok(n)
 }

@@ -1,14 +1,15 @@
 -- Laws for writing: sizes, copies and runs of stores, one behind the other.
-use Prim.Native.Nat.{ℕ, zero, suc, ◌+◌, ◌-◌, ◌≤◌, ◌<◌}
-use mathlib.Core.Path.{◌≡◌, refl, sym, ap, ap₂, ◌∙◌}
+use Prim.Native.Nat.{ℕ, zero, suc, ◌+◌, ◌-◌, ◌≤◌}
+use mathlib.Core.Path.{◌≡◌, refl, sym, ap, ◌∙◌}
 use mathlib.Core.List.{List, [], ◌∷◌, ◌++◌, append_assoc, append-nil}
 use native.Mathlib.Omega.{arith}
-use native.Mathlib.Nat.{add-zero}
-use native.Mathlib.Numerals.{add-one}
-use lib.ListN.{length, take, drop, get_or, set, length-append, length-drop, length-set}
-use lib.Seq.{paste, paste-zero, paste-suc, get_or-drop, drop-drop, drop-append-add, take-add, take_at, length-take-le}
+use lib.ListN.{length, take, drop, length-append, length-drop}
+use lib.Seq.{drop-drop, take-add, length-take-le}
+use borrow.Rule.Slice.PartMut.{put_mid}
+use Rattle.std.proofs.lemmas.Slice.{put_mid-paste}
+use Rattle.std.proofs.lemmas.List.{take_all}
 use Rattle.base.specs.Over.{wrote}
-use Rattle.base.proofs.Over.{wrote-nil, wrote-more, length-wrote, paste-wrote}
+use Rattle.base.proofs.Over.{wrote-more, paste-wrote}
 use Rattle.fields.specs.BigEndian.{bytes}
 use Rattle.fields.proofs.BigEndian.{length-bytes}
 use Rattle.boxes.specs.Boxes.{part}
@@ -25,46 +26,13 @@ length_part s from n h =
     let e : from + n - from ≡ n = omega arith in
     rw e (length-take-le n (drop from s) (rw length-drop (omega arith)))
 
--- a copy: a turn, and the end
-pub copy_more : (d₀ d s : List ℕ) (at from i : ℕ) → d ≡ paste d₀ at (drop from s) i → at + i < length d₀ → from + i < length s
-    → set d (at + i) (get_or s (from + i) 0) ≡ paste d₀ at (drop from s) (i + 1)
-copy_more d₀ d s at from i e h k =
-    let g : get_or s (from + i) 0 ≡ get_or (drop from s) i 0 = sym (get_or-drop from s i 0) in
-    let l : i < length (drop from s) = rw length-drop (omega arith) in
-    rw (add-one, e, g) (paste-suc d₀ at (drop from s) i 0 h l)
-
-pub copied : (d s : List ℕ) (at from n : ℕ) → from + n ≤ length s → paste d at (drop from s) n ≡ wrote d at (part s from (from + n))
-unfolding part
-copied d s at from n h =
-    let e : from + n - from ≡ n = omega arith in
-    let l : n ≤ length (drop from s) = rw length-drop (omega arith) in
-    rw e (paste-wrote d at (drop from s) n l)
-
--- m bytes stored one after the other
-abbrev pub stored : (d s : List ℕ) (at from m : ℕ) → List ℕ
-stored d s at from zero = d
-stored d s at from (suc zero) = set d at (get_or s from 0)
-stored d s at from (suc (suc m)) = set (stored d s at from (suc m)) (at + suc m) (get_or s (from + suc m) 0)
-
-pub length-stored : (d s : List ℕ) (at from m : ℕ) → length (stored d s at from m) ≡ length d
-length-stored d s at from zero = refl
-length-stored d s at from (suc zero) = length-set d at (get_or s from 0)
-length-stored d s at from (suc (suc m)) = length-set (stored d s at from (suc m)) (at + suc m) (get_or s (from + suc m) 0) ∙ length-stored d s at from (suc m)
-
-pub in-stored : (d s : List ℕ) (at from m k : ℕ) → k < length d → k < length (stored d s at from m)
-in-stored d s at from m k h = rw (length-stored d s at from m) h
-
-stored_is : (d s : List ℕ) (at from m : ℕ) → at + m ≤ length d → from + m ≤ length s → stored d s at from m ≡ paste d at (drop from s) m
-stored_is d s at from zero h k = paste-zero d at (drop from s)
-stored_is d s at from (suc zero) h k =
-    ap₂ (λ (x y : ℕ). set d x (get_or s y 0)) (sym (add-zero at)) (sym (add-zero from))
-    ∙ copy_more d d s at from 0 (paste-zero d at (drop from s)) (omega arith) (omega arith)
-stored_is d s at from (suc (suc m)) h k =
-    copy_more d (stored d s at from (suc m)) s at from (suc m) (stored_is d s at from (suc m) (omega arith) (omega arith)) (omega arith) (omega arith)
-    ∙ ap (paste d at (drop from s)) (add-one (suc m))
-
-pub copied-once : (d s : List ℕ) (at from m : ℕ) → at + m ≤ length d → from + m ≤ length s → stored d s at from m ≡ wrote d at (part s from (from + m))
-copied-once d s at from m h k = stored_is d s at from m h k ∙ copied d s at from m k
+-- a copy into a part of a slice
+pub copied : (d s ys : List ℕ) (at from n k : ℕ) → ys ≡ part s from (from + n) → k ≡ n → from + n ≤ length s
+    → put_mid at k d ys ≡ wrote d at (part s from (from + n))
+copied d s ys at from n k e h q =
+    let v = part s from (from + n) in
+    let l : length v ≡ n = length_part s from n q in
+    put_mid-paste at k d ys v n e (sym h) (sym l) ∙ paste-wrote d at v n (omega arith) ∙ ap (wrote d at) (take_all n v (omega arith))
 
 pub part_join : (s : List ℕ) (a b c : ℕ) → a ≤ b → b ≤ c → part s a b ++ part s b c ≡ part s a c
 unfolding part
@@ -75,55 +43,6 @@ part_join s a b c h k =
     ∙ ap (λ (x : List ℕ). take (b - a) (drop a s) ++ take (c - b) x) (sym (drop-drop (b - a) a s))
     ∙ sym (take-add (b - a) (c - b) (drop a s))
     ∙ ap (λ (x : ℕ). take x (drop a s)) e
-
-pub copy-none : (d s : List ℕ) (at from : ℕ) → d ≡ wrote d at (part s from (from + 0))
-unfolding part
-copy-none d s at from = let e : from + 0 - from ≡ 0 = omega arith in rw e (wrote-nil d at)
-
-pub copy-long : (d e s : List ℕ) (at from i : ℕ) → e ≡ wrote d at (part s from (from + i)) → at + i ≤ length d → from + i ≤ length s → length e ≡ length d
-copy-long d e s at from i q h k = ap length q ∙ length-wrote d at (part s from (from + i)) (omega (arith, length_part s from i k))
-
--- a copy goes on where it stopped
-pub copy-on : (d s : List ℕ) (at from i k : ℕ) → at + i ≤ length d → from + i + k ≤ length s
-    → wrote (wrote d at (part s from (from + i))) (at + i) (part s (from + i) (from + i + k)) ≡ wrote d at (part s from (from + (i + k)))
-copy-on d s at from i k h g =
-    let l = length_part s from i (omega arith) in
-    let e : from + i + k ≡ from + (i + k) = omega arith in
-    wrote-more d at (at + i) (part s from (from + i)) (part s (from + i) (from + i + k)) (omega arith) (omega arith)
-    ∙ ap (wrote d at) (part_join s from (from + i) (from + i + k) (omega arith) (omega arith) ∙ ap (part s from) e)
-
--- what is written at the same place, and is not shorter, stands instead of it
-wrote-again : (d : List ℕ) (p : ℕ) (a b : List ℕ) → p + length b ≤ length d → length a ≤ length b → wrote (wrote d p a) p b ≡ wrote d p b
-unfolding wrote
-wrote-again d p a b h k =
-    let l : length (take p d) ≡ p = length-take-le p d (omega arith) in
-    let n : length (take p d ++ a) + (length b - length a) ≡ p + length b = rw length-append (omega arith) in
-    let m : p + length a + (length b - length a) ≡ p + length b = omega arith in
-    let x = take p d ++ a ++ drop (p + length a) d in
-    let t : take p x ≡ take p d = ap (take p) (append_assoc (take p d) a (drop (p + length a) d)) ∙ take_at (take p d) (a ++ drop (p + length a) d) p l in
-    let r : drop (p + length b) x ≡ drop (p + length b) d =
-    ap (λ (j : ℕ). drop j x) (sym n)
-    ∙ drop-append-add (take p d ++ a) (drop (p + length a) d) (length b - length a)
-    ∙ drop-drop (length b - length a) (p + length a) d
-    ∙ ap (λ (j : ℕ). drop j d) m in
-    ap (λ (q : List ℕ). q ++ b ++ drop (p + length b) x) t ∙ ap (λ (q : List ℕ). take p d ++ b ++ q) r
-
--- the last k bytes of a copy, of which some may have been copied before
-pub copy-last : (d s : List ℕ) (at from i n last k : ℕ) → at + n ≤ length d → from + n ≤ length s → last ≤ i → i ≤ n → n ≡ last + k
-    → wrote (wrote d at (part s from (from + i))) (at + last) (part s (from + last) (from + last + k)) ≡ wrote d at (part s from (from + n))
-copy-last d s at from i n last k h g a b e =
-    let j = i - last in
-    let f : i ≡ last + j = omega arith in
-    let d₁ = wrote d at (part s from (from + last)) in
-    let l₀ = length_part s from last (omega arith) in
-    let l = length-wrote d at (part s from (from + last)) (omega arith) in
-    let la = length_part s (from + last) j (omega arith) in
-    let lb = length_part s (from + last) k (omega arith) in
-    ap (λ (x : ℕ). wrote (wrote d at (part s from (from + x))) (at + last) (part s (from + last) (from + last + k))) f
-    ∙ ap (λ (x : List ℕ). wrote x (at + last) (part s (from + last) (from + last + k))) (sym (copy-on d s at from last j (omega arith) (omega arith)))
-    ∙ wrote-again d₁ (at + last) (part s (from + last) (from + last + j)) (part s (from + last) (from + last + k)) (omega arith) (omega arith)
-    ∙ copy-on d s at from last k (omega arith) (omega arith)
-    ∙ ap (λ (x : ℕ). wrote d at (part s from (from + x))) (sym e)
 
 -- a header, and a body behind it
 pub boxed : (d : List ℕ) (at k : ℕ) (body : List ℕ) → at + 8 ≤ length d

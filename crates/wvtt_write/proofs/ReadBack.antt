@@ -10,8 +10,7 @@ use lib.Dec.{eqb}
 use lib.ListN.{length, length-append}
 use borrow.Author.Tests.{le-ltb, lt-leb, ne_eqb}
 use Rattle.base.specs.Choice.{pick, both}
-use Rattle.verdict.specs.declared.Verdict.{Verdict}
-use Rattle.verdict.specs.declared.Verdict.TheVariants.{Fine}
+use Rattle.verdict.specs.Verdict.{Verdict, Fine}
 use Rattle.verdict.specs.Judgement.{◌gives◌at◌}
 use Rattle.verdict.proofs.Judgement.{text-right}
 use Rattle.fields.specs.BigEndian.{be, bytes}
@@ -25,7 +24,7 @@ use Rattle.wvtt.specs.Sample.{judge_id, judge_text, judge_body, in_cue, end_cue,
 use Rattle.text.specs.Rules.{identifier_text, payload_text}
 use Rattle.text.specs.Beginnings.{identifier_begun, payload_begun}
 use Rattle.wvtt.specs.Sound.{Sound, AllSound}
-use Rattle.wvtt_cues.specs.declared.Part.{Part}
+use Rattle.boxes.specs.declared.Part.{Part}
 use Rattle.wvtt_cues.specs.Cues.{nowhere, placed, body_of, with_id, parts_of, text_of, held_by, cues_in, sample_cues}
 use Rattle.wvtt_write.specs.Written.{id_item, if_any, text_items, cue_items, cue_bytes, cues_bytes, sample_bytes, any_size, texts_size}
 use Rattle.wvtt_write.specs.ReadBack.{SampleFine, SampleHeld}

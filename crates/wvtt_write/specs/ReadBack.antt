@@ -1,6 +1,6 @@
 -- What reading says of a sample that was written. Proved in proofs/ReadBack.antt.
 use Rattle.std.specs.Prelude.{◌≡◌, List}
-use Rattle.verdict.specs.declared.Verdict.TheVariants.{Fine}
+use Rattle.verdict.specs.Verdict.{Fine}
 use Rattle.timeline.specs.Cues.{Body}
 use Rattle.wvtt.specs.Sample.{judge_sample}
 use Rattle.wvtt.specs.Sound.{AllSound}

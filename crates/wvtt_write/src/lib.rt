@@ -12,73 +12,12 @@ ghost use Rattle.wvtt_write.specs.Written.{if_any, text_items, cue_bytes, pooled
 use fields::put32;
 use wvtt::{IDEN, PAYL, STTG, VSID, VTTC, VTTE};
 
-// Copies n bytes, one by one.
-fn copy_bytes(out: &mut [u8], at: usize, src: &[u8], from: usize, n: usize)
-    requires { (at + n ≤ length out.old) × (from + n ≤ length src.now) }
-    ensures { out.new ≡ wrote out.old at (part src.now from (from + n)) }
-{
-    let mut i = 0;
-    while i < n {
-        out[at + i] = src[from + i];
-        i += 1;
-    }
-}
-
-// Copies sixteen bytes. All are read before the first is stored, so that it compiles to one load and one store.
-fn copy16(out: &mut [u8], at: usize, src: &[u8], from: usize)
-    requires { (at + 16 ≤ length out.old) × (from + 16 ≤ length src.now) }
-    ensures { out.new ≡ wrote out.old at (part src.now from (from + 16)) }
-{
-    let a = src[from];
-    let b = src[from + 1];
-    let c = src[from + 2];
-    let d = src[from + 3];
-    let e = src[from + 4];
-    let f = src[from + 5];
-    let g = src[from + 6];
-    let h = src[from + 7];
-    let i = src[from + 8];
-    let j = src[from + 9];
-    let k = src[from + 10];
-    let l = src[from + 11];
-    let m = src[from + 12];
-    let n = src[from + 13];
-    let o = src[from + 14];
-    let p = src[from + 15];
-    out[at] = a;
-    out[at + 1] = b;
-    out[at + 2] = c;
-    out[at + 3] = d;
-    out[at + 4] = e;
-    out[at + 5] = f;
-    out[at + 6] = g;
-    out[at + 7] = h;
-    out[at + 8] = i;
-    out[at + 9] = j;
-    out[at + 10] = k;
-    out[at + 11] = l;
-    out[at + 12] = m;
-    out[at + 13] = n;
-    out[at + 14] = o;
-    out[at + 15] = p;
-}
-
-// Copies n bytes of `src` from `from` on to `at` in `out`, sixteen at a time. The last sixteen may overlap the ones before.
+// Copies n bytes of `src` from `from` on to `at` in `out`.
 pub fn copy_run(out: &mut [u8], at: usize, src: &[u8], from: usize, n: usize)
     requires { (at + n ≤ length out.old) × (from + n ≤ length src.now) }
     ensures { out.new ≡ wrote out.old at (part src.now from (from + n)) }
 {
-    if n < 16 {
-        copy_bytes(&mut *out, at, src, from, n);
-        return;
-    }
-    let last = n - 16;
-    let mut i = 0;
-    while i < last {
-        copy16(&mut *out, at + i, src, from + i);
-        i += 16;
-    }
-    copy16(&mut *out, at + last, src, from + last);
+    out[at..at + n].copy_from_slice(&src[from..from + n]);
 }
 
 // The size and the type of a box.
@@ -116,10 +55,7 @@ fn any_size(n: usize) -> usize
     requires { n ≤ 65535 }
     ensures { (result ≡ any_size n) × (result ≤ 65543) }
 {
-    if n == 0 {
-        return 0;
-    }
-    n + 8
+    if n == 0 { 0 } else { n + 8 }
 }
 
 // The bytes of a cue whose texts have these lengths.

@@ -1,9 +1,7 @@
-use native.Mathlib.Nat.{add-zero}
-use Rattle.base.specs.Iter.{iter}
-use Rattle.ascii.specs.Ascii.{ascii, all}
-use Rattle.ascii.proofs.Blocks.{or-below}
+use Prim.Native.Nat.{◌+◌}
+use mathlib.Core.Path.{refl, ◌∙◌}
+use Rattle.ascii.proofs.Blocks.{all-part}
 use Rattle.ascii.proofs.is_ascii8.Goals as goal
 
 pub returns : goal.returns
-unfolding all ascii iter
-returns c = simp (or-below, add-zero)
+returns c = c.is_ascii.ensures ∙ all-part _ _ c.args.i 8 (c.args.i + 8) refl c.requires

@@ -1,4 +1,3 @@
-use Prim.Native.Nat.{◌-◌}
 use mathlib.Core.Path.{◌≡◌, refl, sym, ◌∙◌}
 use native.Mathlib.Omega.{arith}
 use native.Mathlib.Numerals.{add-one}
@@ -12,11 +11,11 @@ returns-then-is_unmarked8 c = all-lined _ _ _ (sym c.is_unmarked8.ensures ∙ c.
 
 pub loop-k-init : goal.loop-k-init
 unfolding all_pairs iter
-loop-k-init c = (omega arith, refl)
+loop-k-init c = refl
 
 pub loop-k-preserved : goal.loop-k-preserved
 unfolding all_pairs lined iter
-loop-k-preserved c = (omega arith, rw (add-one, all_pairs, iter, or-none, c.pair_mark_of-x.ensures, mark-none, c.loop-k.invariant.1))
+loop-k-preserved c = rw (add-one, all_pairs, iter, or-none, c.pair_mark_of-x.ensures, mark-none, c.loop-k.invariant)
 
 pub returns : goal.returns
-returns c = let e : c.loop-k.k ≡ 8 = omega arith in rw (← e) c.loop-k.invariant.1
+returns c = let e : c.loop-k.k ≡ 8 = omega arith in rw (← e) c.loop-k.invariant

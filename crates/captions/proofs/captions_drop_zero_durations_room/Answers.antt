@@ -4,4 +4,4 @@ use mathlib.Core.Path.{ap, ◌∙◌}
 use Rattle.captions.proofs.captions_drop_zero_durations_room.Goals as goal
 
 pub returns : goal.returns
-returns c = c.flat_dropped.ensures ∙ ap flat_dropped c.drop_zero_durations_room.ensures
+returns c = c.from.ensures ∙ ap flat_dropped c.drop_zero_durations_room.ensures

@@ -4,4 +4,4 @@ use mathlib.Core.Path.{ap, ◌∙◌}
 use Rattle.captions.proofs.captions_step.Goals as goal
 
 pub returns : goal.returns
-returns c = c.flat_step.ensures ∙ ap flat_step c.step_at.ensures
+returns c = c.from.ensures ∙ ap flat_step c.step_at.ensures

@@ -4,4 +4,4 @@ use mathlib.Core.Path.{ap, ◌∙◌}
 use Rattle.captions.proofs.captions_tx3g_convert_room.Goals as goal
 
 pub returns : goal.returns
-returns c = c.flat_converted.ensures ∙ ap flat_converted c.convert_room.ensures
+returns c = c.from.ensures ∙ ap flat_converted c.convert_room.ensures

@@ -4,4 +4,4 @@ use mathlib.Core.Path.{ap, ◌∙◌}
 use Rattle.captions.proofs.captions_tx3g_count_characters.Goals as goal
 
 pub returns : goal.returns
-returns c = c.flat_count.ensures ∙ ap flat_count c.count_characters.ensures
+returns c = c.from.ensures ∙ ap flat_count c.count_characters.ensures

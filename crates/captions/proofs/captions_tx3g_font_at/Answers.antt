@@ -4,4 +4,4 @@ use mathlib.Core.Path.{ap, ◌∙◌}
 use Rattle.captions.proofs.captions_tx3g_font_at.Goals as goal
 
 pub returns : goal.returns
-returns c = c.flat_font.ensures ∙ ap flat_font c.font_at.ensures
+returns c = c.from.ensures ∙ ap flat_font c.font_at.ensures

@@ -4,4 +4,4 @@ use mathlib.Core.Path.{ap, ◌∙◌}
 use Rattle.captions.proofs.captions_tx3g_next_modifier.Goals as goal
 
 pub returns : goal.returns
-returns c = c.flat_modified.ensures ∙ ap flat_modified c.next_modifier.ensures
+returns c = c.from.ensures ∙ ap flat_modified c.next_modifier.ensures

@@ -4,4 +4,4 @@ use mathlib.Core.Path.{ap, ◌∙◌}
 use Rattle.captions.proofs.captions_tx3g_read_entry.Goals as goal
 
 pub returns : goal.returns
-returns c = c.flat_tx3g_entry.ensures ∙ ap flat_tx3g_entry c.read_entry.ensures
+returns c = c.from.ensures ∙ ap flat_tx3g_entry c.read_entry.ensures

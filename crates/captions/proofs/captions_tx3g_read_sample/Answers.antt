@@ -4,4 +4,4 @@ use mathlib.Core.Path.{ap, ◌∙◌}
 use Rattle.captions.proofs.captions_tx3g_read_sample.Goals as goal
 
 pub returns : goal.returns
-returns c = c.flat_content.ensures ∙ ap flat_content c.read_content.ensures
+returns c = c.from.ensures ∙ ap flat_content c.read_content.ensures

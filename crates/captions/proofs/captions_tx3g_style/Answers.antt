@@ -4,4 +4,4 @@ use mathlib.Core.Path.{ap, ◌∙◌}
 use Rattle.captions.proofs.captions_tx3g_style.Goals as goal
 
 pub returns : goal.returns
-returns c = c.flat_styled.ensures ∙ ap flat_styled c.style_at.ensures
+returns c = c.from.ensures ∙ ap flat_styled c.style_at.ensures

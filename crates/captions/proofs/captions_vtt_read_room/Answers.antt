@@ -4,4 +4,4 @@ use mathlib.Core.Path.{ap, ◌∙◌}
 use Rattle.captions.proofs.captions_vtt_read_room.Goals as goal
 
 pub returns : goal.returns
-returns c = c.flat_file.ensures ∙ ap flat_file c.read_room.ensures
+returns c = c.from.ensures ∙ ap flat_file c.read_room.ensures

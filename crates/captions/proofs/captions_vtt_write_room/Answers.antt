@@ -4,4 +4,4 @@ use Rattle.captions.specs.Flat.{flat_file_written}
 use Rattle.captions.proofs.captions_vtt_write_room.Goals as goal
 
 pub returns : goal.returns
-returns c = c.flat_file_written.ensures ∙ ap flat_file_written c.write_room.ensures
+returns c = c.from.ensures ∙ ap flat_file_written c.write_room.ensures

@@ -4,4 +4,4 @@ use mathlib.Core.Path.{ap, ◌∙◌}
 use Rattle.captions.proofs.captions_wvtt_check.Goals as goal
 
 pub returns : goal.returns
-returns c = c.flat_checked.ensures ∙ ap flat_checked c.check_track.ensures
+returns c = c.from.ensures ∙ ap flat_checked c.check_track.ensures

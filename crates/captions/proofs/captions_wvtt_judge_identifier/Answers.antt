@@ -1,6 +1,6 @@
 -- `captions::captions_wvtt_judge_identifier` meets its contract: the answer of the operation, as C sees it.
 use mathlib.Core.Path.{ap, ◌∙◌}
-use Rattle.viable.specs.declared.Judged.{Judged}
+use Rattle.viable.specs.Judged.{Judged}
 use Rattle.verdict.specs.Judgement.{text_at}
 use Rattle.captions.specs.Flat.{flat_verdict, flat_text}
 use Rattle.captions.proofs.captions_wvtt_judge_identifier.Goals as goal

@@ -4,4 +4,4 @@ use mathlib.Core.Path.{ap, ◌∙◌}
 use Rattle.captions.proofs.captions_wvtt_next_cue.Goals as goal
 
 pub returns : goal.returns
-returns c = c.flat_held.ensures ∙ ap flat_held c.next_cue.ensures
+returns c = c.from.ensures ∙ ap flat_held c.next_cue.ensures

@@ -4,4 +4,4 @@ use mathlib.Core.Path.{ap, ◌∙◌}
 use Rattle.captions.proofs.captions_wvtt_pack_room.Goals as goal
 
 pub returns : goal.returns
-returns c = c.flat_packed.ensures ∙ ap flat_packed c.pack_room.ensures
+returns c = c.from.ensures ∙ ap flat_packed c.pack_room.ensures

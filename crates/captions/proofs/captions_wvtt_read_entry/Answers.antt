@@ -4,4 +4,4 @@ use mathlib.Core.Path.{ap, ◌∙◌}
 use Rattle.captions.proofs.captions_wvtt_read_entry.Goals as goal
 
 pub returns : goal.returns
-returns c = c.flat_wvtt_entry.ensures ∙ ap flat_wvtt_entry c.read_entry.ensures
+returns c = c.from.ensures ∙ ap flat_wvtt_entry c.read_entry.ensures

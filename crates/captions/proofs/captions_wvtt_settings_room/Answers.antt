@@ -4,4 +4,4 @@ use mathlib.Core.Path.{ap, ◌∙◌}
 use Rattle.captions.proofs.captions_wvtt_settings_room.Goals as goal
 
 pub returns : goal.returns
-returns c = c.flat_written.ensures ∙ ap flat_written c.given_room.ensures
+returns c = c.from.ensures ∙ ap flat_written c.given_room.ensures

@@ -4,4 +4,4 @@ use mathlib.Core.Path.{ap, ◌∙◌}
 use Rattle.captions.proofs.captions_wvtt_unpack_room.Goals as goal
 
 pub returns : goal.returns
-returns c = c.flat_unpacked.ensures ∙ ap flat_unpacked c.unpack_room.ensures
+returns c = c.from.ensures ∙ ap flat_unpacked c.unpack_room.ensures

@@ -8,15 +8,15 @@ use Rattle.characters.proofs.count_characters.Goals as goal
 
 pub count_utf16-requires : goal.count_utf16-requires
 unfolding mark
-count_utf16-requires c = mark-whole _ _ c.agreeing-n.ensures.0 c.if-n-eq2.true
+count_utf16-requires c = mark-whole _ _ c.agreeing.ensures.0 c.in-2.is
 
-pub returns-then-n-eq1 : goal.returns-then-n-eq1
+pub returns-in-1 : goal.returns-in-1
 unfolding mark
-returns-then-n-eq1 c = count-bad _ _ (mark-half _ _ c.agreeing-n.ensures.0 c.if-n-eq1.true)
+returns-in-1 c = count-bad _ _ (mark-half _ _ c.agreeing.ensures.0 c.in-1.is)
 
-pub returns : goal.returns
+pub returns-in_default : goal.returns-in_default
 unfolding mark
-returns c =
-    let n = c.agreeing-n.result in
-    let z : n ≡ 0 = omega arith in
-    c.count_utf8.ensures ∙ mark-none _ n c.agreeing-n.ensures.0 z
+returns-in_default c =
+    let n = c.agreeing.result in
+    let z : n ≡ 0 = omega (arith, c.agreeing.ensures.1) in
+    c.count_utf8.ensures ∙ mark-none _ n c.agreeing.ensures.0 z

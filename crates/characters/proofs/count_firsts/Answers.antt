@@ -1,5 +1,5 @@
-use Prim.Native.Nat.{◌+◌, ◌-◌}
-use mathlib.Core.Path.{refl, ap, ap₂, ◌∙◌}
+use Prim.Native.Nat.{◌+◌, ◌-◌, ◌*◌, ◌/◌}
+use mathlib.Core.Path.{◌≡◌, refl, ap, ap₂, ◌∙◌}
 use native.Mathlib.Nat.{zero-add}
 use native.Mathlib.Omega.{arith}
 use lib.ListN.{length}
@@ -7,19 +7,41 @@ use Rattle.base.specs.Iter.{iter}
 use Rattle.characters.specs.Counting.{firsts_in}
 use Rattle.characters.proofs.Firsts.{firsts-add, firsts-most, firsts-parts}
 use Rattle.characters.proofs.count_firsts.Goals as goal
+use Rattle.characters.proofs.count_firsts.Goals.{else-loop-i-test, then-loop-i-test+else-whole-i-gt8}
 
 pub loop-i-init : goal.loop-i-init
 unfolding firsts_in iter
-loop-i-init c = (omega arith, omega arith, refl)
+loop-i-init c = record { strides = (0, refl); whole = omega arith; fits = omega arith; counted = refl }
 
 pub loop-i-preserved : goal.loop-i-preserved
-loop-i-preserved c = (omega arith, omega arith, rw (firsts-add, zero-add, ← c.loop-i.invariant.2) (ap (c.loop-i.n +◌) c.count8-n.ensures.0))
-
-pub count_from-requires : goal.count_from-requires
-count_from-requires c = c.loop-i.invariant.0
+loop-i-preserved c =
+    let i = c.loop-i.invariant in
+    let e = i.strides.1 in
+    record {
+      strides = (i.strides.0 + 1, omega arith);
+      whole = omega arith;
+      fits = omega arith;
+      counted = rw (firsts-add, zero-add, ← i.counted) (ap (c.loop-i.n +◌) c.count8-n.ensures.0);
+    }
 
 pub overflow_add-result : goal.overflow_add-result
-overflow_add-result c = let m = firsts-most c.args.s.now c.loop-i.i (length c.args.s.now - c.loop-i.i) in omega arith
+overflow_add-result c =
+    let s = c.args.s.now in
+    let rest = firsts-most s (length s / 8 * 8) (length s - length s / 8 * 8) in
+    elim c.loop-i-test.branch [
+      | else-loop-i-test w ↦ omega (arith, rest, w.n-is, c.count_from.ensures)
+      | then-loop-i-test+else-whole-i-gt8 w ↦ omega (arith, rest, w.n-is, w.count8-n.ensures.1, c.count_from.ensures)
+    ]
 
 pub returns : goal.returns
-returns c = ap₂ ◌+◌ c.loop-i.invariant.2 c.count_from.ensures ∙ firsts-parts _ c.loop-i.i (omega arith)
+returns c =
+    let s = c.args.s.now in
+    let i = c.loop-i.invariant in
+    let e = i.strides.1 in
+    let counted : c.loop-i-test.n ≡ firsts_in s 0 (length s / 8 * 8) = elim c.loop-i-test.branch [
+      | else-loop-i-test w ↦ let k : length s / 8 * 8 ≡ c.loop-i.i = omega (arith, w.loop-i-test.false) in w.n-is ∙ rw k i.counted
+      | then-loop-i-test+else-whole-i-gt8 w ↦
+          let k : length s / 8 * 8 ≡ c.loop-i.i + 8 = omega arith in
+          w.n-is ∙ rw (k, firsts-add, zero-add, ← i.counted) (ap (c.loop-i.n +◌) w.count8-n.ensures.0)
+    ] in
+    ap₂ ◌+◌ counted c.count_from.ensures ∙ firsts-parts s (length s / 8 * 8) (omega arith)

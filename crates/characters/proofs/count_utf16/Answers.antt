@@ -1,4 +1,3 @@
-use Prim.Native.Nat.{◌-◌}
 use mathlib.Core.Path.{◌≡◌, refl, ◌∙◌}
 use native.Mathlib.Omega.{arith}
 use lib.ListN.{drop}
@@ -24,21 +23,21 @@ loop-i-preserved c =
     let p = units-turn _ l.i l.due _ l.invariant.2 _ _ c.loop-i-test.true c.is_expected.ensures e c.is_within-due.ensures in
     (omega arith, omega arith, p, omega arith)
 
-pub returns-then-not-is_expected-2 : goal.returns-then-not-is_expected-2
-returns-then-not-is_expected-2 c =
+pub returns-then-is_expected : goal.returns-then-is_expected
+returns-then-is_expected c =
     let l = c.loop-i in
-    count-bad _ _ (units-stop _ l.i l.due _ l.invariant.2 _ c.if-i-s.true c.is_expected-then-i-s.ensures (c.if-not-is_expected-2.true))
+    count-bad _ _ (units-odd _ l.i l.due _ l.invariant.2 _ _ refl c.if-i-s.true c.loop-i-test.false c.is_expected-then-i-s.ensures c.if-is_expected.true)
 
-pub returns-then-i-s : goal.returns-then-i-s
-returns-then-i-s c =
+pub returns-else-is_expected : goal.returns-else-is_expected
+returns-else-is_expected c =
     let l = c.loop-i in
-    count-bad _ _ (units-odd _ l.i l.due _ l.invariant.2 _ _ refl c.if-i-s.true c.loop-i-test.false c.is_expected-then-i-s.ensures (c.if-not-is_expected-2.false))
+    count-bad _ _ (units-stop _ l.i l.due _ l.invariant.2 _ c.if-i-s.true c.is_expected-then-i-s.ensures c.if-is_expected.false)
 
 pub returns-then-due : goal.returns-then-due
 returns-then-due c = let l = c.loop-i in count-bad _ _ (units-due _ l.i l.due _ l.invariant.2 l.invariant.0 c.if-i-s.false c.if-due.true)
 
-pub returns : goal.returns
-returns c =
+pub returns-else-due : goal.returns-else-due
+returns-else-due c =
     let l = c.loop-i in
     let s = c.args.s.now in
     let u = units-end s l.i c.if-i-s.false in

@@ -5,11 +5,8 @@ use Rattle.timeline.specs.Checking.{matches}
 use Rattle.cues.specs.List.{cues_of}
 use Rattle.records.specs.Records.{count}
 use mathlib.Core.Path.{◌≡◌}
-use Prim.Native.Nat.{◌-◌, ◌≤◌}
+use Prim.Native.Nat.{◌≤◌}
 use Rattle.conform.proofs.match_sample.Given as goal
 
 abbrev pub invariant-loop-i : goal.invariant-loop-i
 invariant-loop-i l = (l.i ≤ count l.records) × (matches_from l.scale l.records l.pool l.x l.i (held_from l.s l.at) ≡ matches (cues_of l.scale l.records l.pool) l.x.begin l.x.end (sample_cues l.s))
-
-abbrev pub decreases-loop-i : goal.decreases-loop-i
-decreases-loop-i l = l.last - l.i

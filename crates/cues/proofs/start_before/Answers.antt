@@ -7,5 +7,5 @@ pub returns-then-i-eq0 : goal.returns-then-i-eq0
 unfolding start_before
 returns-then-i-eq0 c = rw c.if-i-eq0.true
 
-pub returns : goal.returns
-returns c = before_at _ _ _ c.if-i-eq0.false c.start_ms.ensures.0
+pub returns-else-i-eq0 : goal.returns-else-i-eq0
+returns-else-i-eq0 c = before_at _ _ _ c.if-i-eq0.false c.start_ms.ensures.0

@@ -1,7 +1,7 @@
 use Rattle.cuts.proofs.Laws.{cut-first, cut-goes, cut-stops, cuts-most, bytes-more, turn}
 use Rattle.cuts.specs.Cuts.{or_empty, bytes_to}
 use mathlib.Core.Path.{◌∙◌, sym, ap, ap₂, refl}
-use Prim.Native.Nat.{◌+◌, ◌-◌}
+use Prim.Native.Nat.{◌+◌}
 use native.Mathlib.Omega.{arith}
 use Rattle.cuts.proofs.measure.Goals as goal
 

@@ -2,5 +2,5 @@ use Rattle.cuts.proofs.Laws.{not-empty}
 use native.Mathlib.Omega.{arith}
 use Rattle.cuts.proofs.sample_size.Goals as goal
 
-pub returns : goal.returns
-returns c = (not-empty _ c.if-cues-eq0.false, omega arith)
+pub returns-else-cues-eq0 : goal.returns-else-cues-eq0
+returns-else-cues-eq0 c = (not-empty _ c.if-cues-eq0.false, omega arith)

@@ -3,7 +3,7 @@ use Rattle.cuts.specs.Cuts.{ticks_to, cues_size}
 use Rattle.timeline.specs.Nearest.{nearest}
 use native.Mathlib.Nat.{le_antisymm}
 use mathlib.Core.Path.{◌∙◌, sym, ap}
-use Prim.Native.Nat.{ℕ, ◌-◌}
+use Prim.Native.Nat.{ℕ}
 use native.Mathlib.Omega.{arith}
 use Rattle.cuts.proofs.scan_window.Goals as goal
 
@@ -21,7 +21,7 @@ see_record-s-requires c = let w = c.requires.lasting.1 in omega (arith, w.last_m
 
 pub loop-k-preserved : goal.loop-k-preserved
 loop-k-preserved c = let w = c.requires.lasting.1 in
-    let h = w.started c.loop-k.k c.loop-k-test.true in (
+    let h = w.started c.loop-k.k (omega arith) in (
       omega arith,
       c.see_record-s.ensures.next_value ∙ rw c.loop-k.invariant.1 (sym (near-more _ _ _ _ _ h)),
       c.see_record-s.ensures.cues_value.0 ∙ rw c.loop-k.invariant.2 (sym (size-more _ _ _ _ h)),
@@ -30,7 +30,7 @@ loop-k-preserved c = let w = c.requires.lasting.1 in
 
 pub returns : goal.returns
 returns c = let w = c.requires.lasting.1 in
-    let e = le_antisymm c.loop-k.invariant.0 c.loop-k-test.false in
+    let e = le_antisymm c.loop-k.invariant.0 (omega arith) in
     let a = c.args in (
       c.loop-k.invariant.1 ∙ ap (λ (x : ℕ). nearest a.top a.b (ticks_to a.scale a.records.now x)) e,
       c.loop-k.invariant.2 ∙ ap (cues_size a.scale a.records.now a.b) e ∙ size-after _ _ _ _ _ w.later w.last_most,

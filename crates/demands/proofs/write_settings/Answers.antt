@@ -1,6 +1,6 @@
 -- `demands::write_settings` meets its contract: that of `settings_write::write_settings`, by its answer.
 use mathlib.Core.Path.{◌∙◌, sym, ap}
-use Rattle.wvtt_entry_write.specs.declared.Written.{Written}
+use Rattle.wvtt_entry_write.specs.Written.{Written}
 use Rattle.wvtt_entry_write.specs.Writing.{after}
 use Rattle.settings.specs.Form.{written}
 use Rattle.settings_write.specs.Writing.{record_with}

@@ -1,18 +1,15 @@
--- `fields::put16` meets its contract: the stores are the bytes of the definition, one after the other.
+-- `fields::put16` meets its contract: the lower bytes of the number are those of the definition.
+use Prim.Native.Nat.{ℕ, ◌/◌, ◌%◌}
+use mathlib.Core.List.{◌∷◌, []}
+use mathlib.Core.Path.{◌≡◌, refl, ◌∙◌}
 use native.Mathlib.Omega.{arith}
-use lib.ListN.{length-set}
-use native.Mathlib.Numerals.{towards_suc}
-use Rattle.base.proofs.Over.{sets-wrote}
 use Rattle.fields.specs.BigEndian.{bytes}
-use Rattle.fields.proofs.BigEndian.{length-bytes}
+use Rattle.fields.proofs.BigEndian.{put-bytes}
 use Rattle.fields.proofs.put16.Goals as goal
 
-pub returns : goal.returns
+two : (v : ℕ) → v / 256 % 256 ∷ (v % 256 ∷ []) ≡ bytes 2 v
 unfolding bytes
-returns c = rw (← sets-wrote c.args.d.now c.args.at (bytes 2 c.args.v) (omega (arith, length-bytes 2 c.args.v))) (simp towards_suc)
+two v = refl
 
-pub bounds-d-at-2 : goal.bounds-d-at-2
-bounds-d-at-2 c = simp length-set (omega arith)
-
-pub shape_of-d : goal.shape_of-d
-shape_of-d c = simp length-set
+pub returns : goal.returns
+returns c = put-bytes c.args.d.now _ c.args.at 2 _ c.args.v (c.copy_from_slice.ensures.after ∙ rw c.to_be_bytes.ensures (two c.args.v)) (omega arith)

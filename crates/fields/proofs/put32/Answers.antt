@@ -1,24 +1,19 @@
--- `fields::put32` meets its contract: the stores are the bytes of the definition, one after the other.
+-- `fields::put32` meets its contract: the bytes of the number are those of the definition.
+use Prim.Native.Nat.{ℕ, ◌/◌, ◌%◌}
+use mathlib.Core.List.{◌∷◌, []}
+use mathlib.Core.Path.{◌≡◌, refl, ◌∙◌}
 use native.Mathlib.Omega.{arith}
-use lib.ListN.{length-set}
-use native.Mathlib.Numerals.{towards_suc}
-use Rattle.base.proofs.Over.{sets-wrote}
 use Rattle.fields.specs.BigEndian.{bytes}
-use Rattle.fields.proofs.BigEndian.{length-bytes}
+use Rattle.fields.proofs.BigEndian.{put-bytes}
 use Rattle.fields.proofs.put32.Goals as goal
 
-pub returns : goal.returns
+-- the bytes by one division each, and by one after the other
+four : (v : ℕ) → v / 16777216 % 256 ∷ (v / 65536 % 256 ∷ (v / 256 % 256 ∷ (v % 256 ∷ []))) ≡ bytes 4 v
 unfolding bytes
-returns c = rw (← sets-wrote c.args.d.now c.args.at (bytes 4 c.args.v) (omega (arith, length-bytes 4 c.args.v))) (simp towards_suc)
+four v =
+    let a : v / 65536 ≡ v / 256 / 256 = omega arith in
+    let b : v / 16777216 ≡ v / 256 / 256 / 256 = omega arith in
+    rw (a, b) refl
 
-pub bounds-d-at-2 : goal.bounds-d-at-2
-bounds-d-at-2 c = simp length-set (omega arith)
-
-pub bounds-d-at-3 : goal.bounds-d-at-3
-bounds-d-at-3 c = simp length-set (omega arith)
-
-pub bounds-d-at-4 : goal.bounds-d-at-4
-bounds-d-at-4 c = simp length-set (omega arith)
-
-pub shape_of-d : goal.shape_of-d
-shape_of-d c = simp length-set
+pub returns : goal.returns
+returns c = put-bytes c.args.d.now _ c.args.at 4 _ c.args.v (c.copy_from_slice.ensures.after ∙ c.to_be_bytes.ensures ∙ four c.args.v) (omega arith)

@@ -8,5 +8,5 @@ grow-requires c = sym c.is_digit.ensures ∙ c.if-is_digit.true
 pub returns-then-is_digit : goal.returns-then-is_digit
 returns-then-is_digit c = simp (← c.is_digit.ensures, c.if-is_digit.true, c.grow.ensures)
 
-pub returns : goal.returns
-returns c = simp (← c.is_digit.ensures, c.if-is_digit.false)
+pub returns-else-is_digit : goal.returns-else-is_digit
+returns-else-is_digit c = simp (← c.is_digit.ensures, c.if-is_digit.false)

@@ -2,11 +2,11 @@
 use mathlib.Core.Path.{sym, ◌∙◌}
 use Rattle.input.proofs.begin_time.Goals as goal
 
-pub grow-requires : goal.grow-requires
-grow-requires c = sym c.is_digit.ensures ∙ c.if-is_digit.true
+pub grow-t-requires : goal.grow-t-requires
+grow-t-requires c = sym c.is_digit.ensures ∙ c.if-is_digit.true
 
 pub returns-then-is_digit : goal.returns-then-is_digit
-returns-then-is_digit c = simp (← c.is_digit.ensures, c.if-is_digit.true, c.grow.ensures)
+returns-then-is_digit c = simp (← c.is_digit.ensures, c.if-is_digit.true, c.grow-t.ensures)
 
-pub returns : goal.returns
-returns c = simp (← c.is_digit.ensures, c.if-is_digit.false)
+pub returns-else-is_digit : goal.returns-else-is_digit
+returns-else-is_digit c = simp (← c.is_digit.ensures, c.if-is_digit.false)

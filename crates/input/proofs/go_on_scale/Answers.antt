@@ -12,5 +12,5 @@ returns-then-is_digit c = simp (← c.is_digit.ensures, c.if-is_digit.true, c.gr
 pub returns-then-b-eq32 : goal.returns-then-b-eq32
 returns-then-b-eq32 c = simp (← c.is_digit.ensures, c.if-is_digit.false, eq-eqb _ _ c.if-b-eq32.true)
 
-pub returns : goal.returns
-returns c = simp (← c.is_digit.ensures, c.if-is_digit.false, ne_eqb _ _ c.if-b-eq32.false)
+pub returns-else-b-eq32 : goal.returns-else-b-eq32
+returns-else-b-eq32 c = simp (← c.is_digit.ensures, c.if-is_digit.false, ne_eqb _ _ c.if-b-eq32.false)

@@ -1,17 +1,17 @@
 -- `input::grow` meets its contract.
+use Prim.Native.Nat.{◌-◌}
+use mathlib.Core.Path.{◌≡◌}
 use Rattle.input.specs.Line.{top}
 use Rattle.input.specs.Reading.{grown}
 use Rattle.input.proofs.Laws.{digit-from}
-use native.Mathlib.Omega.{arith}
 use Rattle.input.proofs.grow.Goals as goal
 
-pub overflow_sub-n : goal.overflow_sub-n
-overflow_sub-n c = omega (arith, digit-from c.args.b c.requires)
-
-pub returns-then-n-gt4294967295 : goal.returns-then-n-gt4294967295
-unfolding grown top
-returns-then-n-gt4294967295 c = omega arith
+pub overflow_sub-b : goal.overflow_sub-b
+overflow_sub-b c = digit-from c.args.b c.requires
 
 pub returns : goal.returns
 unfolding grown top
-returns c = omega arith
+returns c =
+    let v : c.from.result ≡ c.args.v = c.from.ensures in
+    let d : c.from-2.result ≡ c.args.b - 48 = c.from-2.ensures in
+    rw (← v, ← d) c.min.ensures

@@ -1,9 +1,11 @@
 -- `input::is_digit` meets its contract.
-use Rattle.input.proofs.Laws.{digit_low, digit-test}
+use Rattle.std.proofs.Common.{arith}
+use Rattle.std.proofs.lemmas.Grind.{common_steps}
+use Rattle.std.proofs.lemmas.Bool.Decides.{nat_tests}
+use Rattle.base.specs.Choice.{within}
+use Rattle.input.specs.Line.{is_digit}
 use Rattle.input.proofs.is_digit.Goals as goal
 
-pub returns-then-b-lt48 : goal.returns-then-b-lt48
-returns-then-b-lt48 c = digit_low c.args.b c.if-b-lt48.true
-
 pub returns : goal.returns
-returns c = digit-test c.args.b c.if-b-lt48.false
+unfolding is_digit within
+returns c = grind (arith, common_steps, nat_tests, c.contains.ensures.value)

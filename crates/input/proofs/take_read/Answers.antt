@@ -1,6 +1,8 @@
 -- `input::take_read` meets its contract.
 use native.Mathlib.Omega.{arith}
 use mathlib.Core.Path.{sym, ap, ◌∙◌}
+use mathlib.Core.Bool.{Bool}
+use borrow.Author.Tests.{eq-eqb}
 use lib.IntN.{ℤ, pos}
 use lib.ListN.{length-take}
 use lib.Signed.{lt_z}
@@ -20,13 +22,14 @@ overflow_cast-got c = let a = c.args in
     rw e (not-failed a.got (ap (λ (z : ℤ). lt_z z (pos 0)) (sym e) ∙ c.if-got-lt0.false), unsigned-fits a.got f)
 
 pub slice_bounds-feed-end : goal.slice_bounds-feed-end
-slice_bounds-feed-end c = let s = c.args.buffer.now in omega (arith, length-take c.least-n.result s)
+slice_bounds-feed-end c = let s = c.args.buffer.now in omega (arith, length-take c.min-n.result s)
 
 pub returns-then-n-eq0 : goal.returns-then-n-eq0
-returns-then-n-eq0 c = at-end c.args.state c.args.buffer.now (to_z-of_z w64 c.args.got c.ranges.got)
-    c.least-n.result c.feed-next.result c.if-got-lt0.false c.least-n.ensures c.feed-next.ensures c.if-n-eq0.true
+returns-then-n-eq0 c =
+    ap (λ (l : Bool). record { state = c.feed-next.result; last = l }) (eq-eqb _ _ c.if-n-eq0.true)
+    ∙ at-end c.args.state c.args.buffer.now (to_z-of_z w64 c.args.got c.ranges.got) c.min-n.result c.feed-next.result c.if-got-lt0.false c.min-n.ensures c.feed-next.ensures c.if-n-eq0.true
 
-pub returns : goal.returns
-returns c = not_yet c.args.state c.args.buffer.now (to_z-of_z w64 c.args.got c.ranges.got)
-    c.least-n.result c.feed-next.result c.if-got-lt0.false c.least-n.ensures c.feed-next.ensures c.if-n-eq0.false
+pub returns-else-n-eq0 : goal.returns-else-n-eq0
+returns-else-n-eq0 c =
+    not_yet c.args.state c.args.buffer.now (to_z-of_z w64 c.args.got c.ranges.got) c.min-n.result c.feed-next.result c.if-got-lt0.false c.min-n.ensures c.feed-next.ensures c.if-n-eq0.false
     c.is_wrong-last.result c.is_wrong-last.ensures

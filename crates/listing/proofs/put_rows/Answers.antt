@@ -1,5 +1,4 @@
-use Prim.Native.Nat.{ℕ, ◌-◌}
-use native.Mathlib.Nat.{le_antisymm}
+use Prim.Native.Nat.{ℕ}
 use mathlib.Core.Path.{◌≡◌, refl, ap, ◌∙◌}
 use lib.ListN.{length}
 use Rattle.base.specs.Over.{over}
@@ -11,18 +10,20 @@ use Rattle.listing.proofs.put_rows.Goals as goal
 
 pub loop-k-init : goal.loop-k-init
 unfolding rows_text
-loop-k-init c = (omega arith, omega arith, refl, refl, over-nil c.args.out.now)
+loop-k-init c = (omega arith, refl, refl, over-nil c.args.out.now)
 
 pub loop-k-preserved : goal.loop-k-preserved
-loop-k-preserved c = let l = c.loop-k in
+loop-k-preserved c =
+    let l = c.loop-k in
     let a = c.args in
-    (omega arith, omega arith, omega arith, rows-length a.table.now l.at _ l.k l.invariant.3 c.put_row-at.ensures.0, rows_more a.out.now l.out _ a.table.now l.at l.k l.invariant.3 l.invariant.4 c.put_row-at.ensures.2)
+    (omega arith, omega arith, rows-length a.table.now l.at _ l.k l.invariant.2 c.put_row-at.ensures.0, rows_more a.out.now l.out _ a.table.now l.at l.k l.invariant.2 l.invariant.3 c.put_row-at.ensures.2)
 
 pub shape_of-out : goal.shape_of-out
-shape_of-out c = c.loop-k.invariant.2
+shape_of-out c = c.loop-k.invariant.1
 
 pub returns : goal.returns
-returns c = let l = c.loop-k in
+returns c =
+    let l = c.loop-k in
     let a = c.args in
-    let e : l.k ≡ a.count = le_antisymm l.invariant.0 c.loop-k-test.false in
-    (l.invariant.3 ∙ ap (λ (x : ℕ). length (rows_text a.table.now x)) e, l.invariant.4 ∙ ap (λ (x : ℕ). over (rows_text a.table.now x) a.out.now) e)
+    let e : l.k ≡ a.count = omega arith in
+    (l.invariant.2 ∙ ap (λ (x : ℕ). length (rows_text a.table.now x)) e, l.invariant.3 ∙ ap (λ (x : ℕ). over (rows_text a.table.now x) a.out.now) e)

@@ -23,8 +23,8 @@ put_cues-requires c = let f = c.requires.lasting in
     let e = not-empty _ c.if-s-eq0.false in
     record { room = (c.requires.room.0, omega (arith, e, f.2.cues_is, c.requires.room.1)); lasting = (f.0, f.1, f.2.window) }
 
-pub returns : goal.returns
-returns c = let a = c.args in
+pub returns-else-s-eq0 : goal.returns-else-s-eq0
+returns-else-s-eq0 c = let a = c.args in
     let f = c.requires.lasting in
     let e = not-empty _ c.if-s-eq0.false in
     let l = shown-length _ _ _ a.b a.n f.1 in record { value = omega (arith, e, f.2.cues_is, c.put_cues.ensures.value); out_after = c.put_cues.ensures.out_after ∙ ap (wrote a.out.now a.at) (some_bytes _ (λ z. c.if-s-eq0.false (f.2.cues_is ∙ sym l ∙ z))) }

@@ -10,7 +10,7 @@ use Rattle.times.specs.Times.{tick}
 use Rattle.base.proofs.Over.{over-nil}
 use lib.ListN.{length}
 use mathlib.Core.Path.{◌∙◌, ap, refl, subst, subst⁻¹}
-use Prim.Native.Nat.{ℕ, ◌-◌, ◌/◌, ◌≤◌, ◌<◌}
+use Prim.Native.Nat.{ℕ, ◌/◌, ◌≤◌, ◌<◌}
 use native.Mathlib.Omega.{arith}
 use Rattle.pack.proofs.write_track.Goals as goal
 

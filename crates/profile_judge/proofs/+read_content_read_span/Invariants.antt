@@ -2,7 +2,7 @@
 use Prim.Native.Nat.{◌-◌, ◌+◌, ◌*◌}
 use lib.ListN.{length}
 use Rattle.profile.specs.Readings.{Reads}
-use Rattle.profile.specs.declared.Spot.TheVariants.{Past}
+use Rattle.profile.specs.Spot.{Past}
 use Rattle.profile_judge.specs.Terms.{Room, texts}
 use Rattle.profile_judge.proofs.+read_content_read_span.Given as goal
 

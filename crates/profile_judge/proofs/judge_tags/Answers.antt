@@ -1,12 +1,14 @@
 -- From the answer of the outermost content.
+use mathlib.Core.Path.{◌∙◌}
+use Rattle.base.proofs.Results.{passed_on}
 use Rattle.profile_judge.proofs.Laws.{plain-whole, whole-right, whole-wrong}
 use Rattle.profile_judge.proofs.judge_tags.Goals as goal
 
 pub returns-then-is_plain : goal.returns-then-is_plain
 returns-then-is_plain c = plain-whole _ (c.is_plain.ensures c.if-is_plain.true)
 
-pub returns-in-On : goal.returns-in-On
-returns-in-On c = whole-right _ _ _ (rw c.in-On.is at c.read_content-c.ensures)
+pub returns-in_err-read_content : goal.returns-in_err-read_content
+returns-in_err-read_content c = passed_on _ _ c.from_residual.ensures ∙ whole-wrong _ _ c.in_err-read_content.ensures
 
-pub returns-in-Wrong : goal.returns-in-Wrong
-returns-in-Wrong c = whole-wrong _ _ (rw c.in-Wrong.is at c.read_content-c.ensures)
+pub returns : goal.returns
+returns c = whole-right _ c.in_ok-read_content.field-0.0 c.in_ok-read_content.field-0.1 c.in_ok-read_content.ensures

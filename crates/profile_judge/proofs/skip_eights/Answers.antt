@@ -1,5 +1,4 @@
 use native.Mathlib.Omega.{arith}
-use Prim.Native.Nat.{◌-◌}
 use Rattle.profile.specs.Readings.{Around, texted}
 use Rattle.profile.proofs.Readings.{r-here}
 use Rattle.profile.proofs.Readings.{r-then}

@@ -2,7 +2,7 @@
 use Prim.Native.Nat.{◌-◌}
 use lib.ListN.{length}
 use Rattle.profile.specs.Readings.{Reads, Around, texted}
-use Rattle.profile.specs.declared.Spot.TheVariants.{Past}
+use Rattle.profile.specs.Spot.{Past}
 use Rattle.profile_judge.proofs.skip_eights.Given as goal
 
 abbrev pub invariant-loop-i : goal.invariant-loop-i

@@ -4,12 +4,13 @@ use Rattle.profile.proofs.Readings.{r-end}
 use Rattle.profile_tags.specs.Terms.{Head}
 use Rattle.profile_tags.proofs.Heads.{dot-dead, dot-class}
 use Rattle.profile_tags.proofs.read_class.Goals as goal
+use Rattle.profile_tags.proofs.read_class.Goals.{then-at-s-via-then-at-s, then-at-s-via-else-at-s+then-not-is_class}
 
-pub returns-then-s-at : goal.returns-then-s-at
-returns-then-s-at c = r-end Head _ _ _ _ c.if-s-at.true (λ x. refl)
-
-pub returns-then-not-is_class : goal.returns-then-not-is_class
-returns-then-not-is_class c = dot-dead _ _ c.if-s-at.false (sym c.is_class.ensures ∙ c.if-not-is_class.true)
+pub returns-then-at-s : goal.returns-then-at-s
+returns-then-at-s c = elim c.then-at-s.branch [
+  | then-at-s-via-then-at-s w ↦ r-end Head _ _ _ _ w.if-at-s.true (λ x. refl)
+  | then-at-s-via-else-at-s+then-not-is_class w ↦ dot-dead _ _ w.if-at-s.false (sym w.is_class.ensures ∙ w.if-not-is_class.true)
+]
 
 pub returns : goal.returns
-returns c = dot-class _ _ c.if-s-at.false _ (sym c.is_class.ensures ∙ c.if-not-is_class.false) c.skip_class.ensures
+returns c = dot-class _ _ c.if-at-s.false _ (sym c.is_class.ensures ∙ c.if-not-is_class.false) c.skip_class.ensures

@@ -1,7 +1,7 @@
 -- Class by class: up to i all is read, and another class may follow.
 use Prim.Native.Nat.{◌-◌}
 use lib.ListN.{length}
-use Rattle.profile.specs.declared.Spot.TheVariants.{Past}
+use Rattle.profile.specs.Spot.{Past}
 use Rattle.profile.specs.Readings.{Reads, Around}
 use Rattle.profile_tags.proofs.Heads.{named}
 use Rattle.profile_tags.proofs.read_head.Given as goal

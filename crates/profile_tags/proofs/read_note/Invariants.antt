@@ -2,7 +2,7 @@
 use Prim.Native.Nat.{◌-◌}
 use mathlib.Core.Bool.{false}
 use lib.ListN.{length}
-use Rattle.profile.specs.declared.Spot.TheVariants.{Past}
+use Rattle.profile.specs.Spot.{Past}
 use Rattle.profile.specs.Readings.{Reads}
 use Rattle.profile_tags.specs.Terms.{Head, noting}
 use Rattle.profile_tags.proofs.read_note.Given as goal

@@ -1,12 +1,15 @@
 -- The byte at hand, then the word that it begins.
-use mathlib.Core.Path.{refl}
+use mathlib.Core.Path.{refl, subst⁻¹}
 use mathlib.Core.List.{[], ◌∷◌}
 use native.Mathlib.Omega.{arith}
+use Rattle.base.proofs.Results.{passed_on}
+use Rattle.profile.specs.Spot.{Past, Bad}
 use Rattle.profile.specs.declared.Tag.TheVariants.{Ruby, Rt}
 use Rattle.profile.specs.Machine.{find, tags_r}
 use Rattle.profile.specs.Readings.{Anywhere, goes_on}
 use Rattle.profile.proofs.Readings.{r-end, r-here}
-use Rattle.profile_tags.specs.Terms.{Here}
+use Rattle.profile_tags.specs.Named.{Named}
+use Rattle.profile_tags.specs.Terms.{Here, NamedIs, LtRs}
 use Rattle.profile_tags.proofs.Names.{ruby-word, ruby-dead, ruby-u, ruby-none}
 use Rattle.profile_tags.proofs.read_ruby.Goals as goal
 
@@ -15,10 +18,15 @@ returns-then-s-at c = r-end (Here c.args.ruby) _ _ _ _ c.if-s-at.true (λ x. ref
 
 pub returns-then-ruby : goal.returns-then-ruby
 unfolding find tags_r
-returns-then-ruby c = rw c.name_of-then-ruby.ensures (ruby-word _ _ (omega arith) _ _ Rt [] (rw (c.if-ruby.true, c.in-116.is)) (r-here Anywhere _ _ goes_on (omega arith)))
+returns-then-ruby c = ruby-word _ _ (omega arith) _ (Past _) Rt [] (rw (c.if-ruby.true, c.in-116.is)) (r-here Anywhere _ _ goes_on (omega arith))
 
-pub returns-in-117 : goal.returns-in-117
-returns-in-117 c = rw c.name_of.ensures (ruby-word _ _ (omega arith) _ _ Ruby (98 ∷ 121 ∷ []) (ruby-u _ _ c.in-117.is) c.read_word.ensures)
+pub returns-in_err-read_word-in-117 : goal.returns-in_err-read_word-in-117
+returns-in_err-read_word-in-117 c =
+    subst⁻¹ (λ (r : Named). NamedIs c.args.s.now c.args.at c.args.ruby r LtRs) (passed_on _ _ c.from_residual.ensures)
+    (ruby-word _ _ (omega arith) _ (Bad _) Ruby (98 ∷ 121 ∷ []) (ruby-u _ _ c.in-117.is) c.in_err-read_word-in-117.ensures)
+
+pub returns-in_ok-read_word-in-117 : goal.returns-in_ok-read_word-in-117
+returns-in_ok-read_word-in-117 c = ruby-word _ _ (omega arith) _ (Past _) Ruby (98 ∷ 121 ∷ []) (ruby-u _ _ c.in-117.is) c.in_ok-read_word-in-117.ensures
 
 pub returns-else-ruby : goal.returns-else-ruby
 unfolding find tags_r

@@ -1,4 +1,3 @@
-use Prim.Native.Nat.{◌-◌}
 use mathlib.Core.Path.{◌≡◌}
 use native.Mathlib.Omega.{arith}
 use borrow.Author.Tests.{eqb-true}
@@ -7,13 +6,13 @@ use Rattle.profile_times.proofs.Clock.{fits_on}
 use Rattle.profile_times.proofs.fits_clock.Goals as goal
 
 pub loop-k-init : goal.loop-k-init
-loop-k-init c = (omega arith, λ e j h. absurd (omega arith))
+loop-k-init c = λ e j h. absurd (omega arith)
 
 pub loop-k-preserved : goal.loop-k-preserved
 unfolding clock
 loop-k-preserved c =
     let a = c.args in
-    (omega arith, λ e. fits_on a.s.now a.at _ _ _ c.loop-k.invariant.1 c.out_of-x.ensures e)
+    λ e. fits_on a.s.now a.at _ _ _ c.loop-k.invariant c.out_of-x.ensures e
 
 pub returns : goal.returns
-returns c e = let k : c.loop-k.k ≡ 13 = omega arith in rw (← k) (c.loop-k.invariant.1 (eqb-true _ _ e))
+returns c e = let k : c.loop-k.k ≡ 13 = omega arith in rw (← k) (c.loop-k.invariant (eqb-true _ _ e))

@@ -1,11 +1,11 @@
-use Prim.Native.Nat.{◌+◌, ◌-◌}
+use Prim.Native.Nat.{◌+◌}
 use native.Mathlib.Omega.{arith}
 use Rattle.profile.specs.Machine.{clock}
 use Rattle.profile_times.proofs.Clock.{none-reached, reached-on, reached-all}
 use Rattle.profile_times.proofs.time_at.Goals as goal
 
 pub loop-k-init : goal.loop-k-init
-loop-k-init c = (omega arith, none-reached c.requires.0 c.requires.1)
+loop-k-init c = none-reached c.requires.0 c.requires.1
 
 pub overflow_sub-time : goal.overflow_sub-time
 unfolding clock
@@ -16,15 +16,15 @@ overflow_cast-time c = omega (arith, (c.type_inv.s (c.args.at + c.loop-k.k)).fit
 
 pub overflow_mul-time : goal.overflow_mul-time
 unfolding clock
-overflow_mul-time c = omega (arith, (reached-on c.requires.0 c.requires.1 c.loop-k.invariant.1 (omega arith) 0 (omega arith)).fits)
+overflow_mul-time c = omega (arith, (reached-on c.requires.0 c.requires.1 c.loop-k.invariant (omega arith) 0 (omega arith)).fits)
 
 pub overflow_add-time-in-loop-k : goal.overflow_add-time-in-loop-k
 unfolding clock
-overflow_add-time-in-loop-k c = omega (arith, (reached-on c.requires.0 c.requires.1 c.loop-k.invariant.1 (omega arith) 0 (omega arith)).fits)
+overflow_add-time-in-loop-k c = omega (arith, (reached-on c.requires.0 c.requires.1 c.loop-k.invariant (omega arith) 0 (omega arith)).fits)
 
 pub loop-k-preserved : goal.loop-k-preserved
 unfolding clock
-loop-k-preserved c = (omega arith, reached-on c.requires.0 c.requires.1 c.loop-k.invariant.1 (omega arith))
+loop-k-preserved c = reached-on c.requires.0 c.requires.1 c.loop-k.invariant (omega arith)
 
 pub returns : goal.returns
-returns c = reached-all c.requires.0 c.requires.1 c.loop-k.invariant.1 (omega arith)
+returns c = reached-all c.requires.0 c.requires.1 c.loop-k.invariant (omega arith)

@@ -10,8 +10,8 @@ returns-in_default c = rw c.in_default.is (with-room _ _ _ _ c.put_refusal.ensur
 
 pub returns-then-are_usable : goal.returns-then-are_usable
 unfolding answer_text
-returns-then-are_usable c = rw (c.in-Numbers.is, answer_text, sym c.are_usable.ensures ∙ c.if-are_usable.true) (with-room _ _ _ _ c.put_list.ensures)
+returns-then-are_usable c = rw (c.in-Some.is, answer_text, sym c.are_usable.ensures ∙ c.if-are_usable.true) (with-room _ _ _ _ c.put_list.ensures)
 
-pub returns : goal.returns
+pub returns-else-are_usable : goal.returns-else-are_usable
 unfolding answer_text
-returns c = rw (c.in-Numbers.is, answer_text, sym c.are_usable.ensures ∙ c.if-are_usable.false) (with-room _ _ _ _ c.put_refusal-2.ensures)
+returns-else-are_usable c = rw (c.in-Some.is, answer_text, sym c.are_usable.ensures ∙ c.if-are_usable.false) (with-room _ _ _ _ c.put_refusal-else-are_usable.ensures)

@@ -1,9 +1,10 @@
 -- `report::put_output` meets its contract.
-use mathlib.Core.Path.{sym, ap₂, ◌∙◌}
+use mathlib.Core.Path.{◌≡◌, refl, sym, ◌∙◌}
 use lib.Seq.{length-take-le}
 use Rattle.base.specs.Choice.{both}
-use Rattle.report.specs.Report.{output_text}
+use Rattle.report.specs.Report.{output_text, whole}
 use Rattle.report.proofs.put_output.Goals as goal
+use Rattle.report.proofs.put_output.Goals.{then-is_whole, else-is_whole}
 
 pub slice_bounds-put_answer-end : goal.slice_bounds-put_answer-end
 slice_bounds-put_answer-end c = sym (length-take-le c.args.first.n c.args.records.now c.requires.0)
@@ -13,4 +14,9 @@ slice_bounds-put_answer-end-2 c = sym (length-take-le c.args.second.n c.args.poo
 
 pub returns : goal.returns
 unfolding output_text
-returns c = rw (sym (c.are_both-found.ensures ∙ ap₂ both c.is_whole.ensures c.is_whole-2.ensures)) c.put_answer.ensures
+returns c =
+    let found : c.if-is_whole.found ≡ both (whole c.args.first) (whole c.args.second) = elim c.if-is_whole.branch [
+      | then-is_whole w ↦ w.found-is ∙ rw (← c.is_whole.ensures, w.if-is_whole.true) w.is_whole-found.ensures
+      | else-is_whole w ↦ w.found-is ∙ rw (← c.is_whole.ensures, w.if-is_whole.false) refl
+    ] in
+    rw (← found) c.put_answer.ensures

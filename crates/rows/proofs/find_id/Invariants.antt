@@ -4,6 +4,3 @@ use Rattle.rows.proofs.find_id.Given as goal
 
 abbrev pub invariant-loop-j : goal.invariant-loop-j
 invariant-loop-j l = (l.j ≤ l.n) × Missing l.tab l.j l.n l.id
-
-abbrev pub decreases-loop-j : goal.decreases-loop-j
-decreases-loop-j l = l.j

@@ -1,15 +1,18 @@
 use Rattle.wvtt_cues.specs.Cues.{text_of}
 use Rattle.rows.specs.Table.{same_texts}
+use Rattle.rows.proofs.same_texts.Goals.{then-same_part, else-same_part}
 use Rattle.rows.proofs.same_texts.Goals as goal
 
-pub returns-then-not-same_part : goal.returns-then-not-same_part
+pub returns-then-same_part-2 : goal.returns-then-same_part-2
 unfolding same_texts text_of
-returns-then-not-same_part c = simp (← c.same_part.ensures, c.if-not-same_part.true)
+returns-then-same_part-2 c = elim c.if-same_part.branch [
+  | then-same_part w ↦ simp (← c.same_part.ensures, w.if-same_part.true, ← w.same_part-then-same_part.ensures, ← w.value-is, c.if-same_part-2.true, ← c.same_part-then-same_part-2.ensures)
+  | else-same_part w ↦ absurd cc
+]
 
-pub returns-then-not-same_part-2 : goal.returns-then-not-same_part-2
+pub returns-else-same_part-2 : goal.returns-else-same_part-2
 unfolding same_texts text_of
-returns-then-not-same_part-2 c = simp (← c.same_part.ensures, c.if-not-same_part.false, ← c.same_part-2.ensures, c.if-not-same_part-2.true)
-
-pub returns : goal.returns
-unfolding same_texts text_of
-returns c = simp (← c.same_part.ensures, c.if-not-same_part.false, ← c.same_part-2.ensures, c.if-not-same_part-2.false, ← c.same_part-3.ensures)
+returns-else-same_part-2 c = elim c.if-same_part.branch [
+  | then-same_part w ↦ simp (← c.same_part.ensures, w.if-same_part.true, ← w.same_part-then-same_part.ensures, ← w.value-is, c.if-same_part-2.false)
+  | else-same_part w ↦ simp (← c.same_part.ensures, w.if-same_part.false, c.if-same_part-2.false)
+]

@@ -16,11 +16,11 @@ slice_bounds-read_decimals-count c = omega (arith, c.requires.0, front-most digi
 pub slice_bounds-read_decimals-start : goal.slice_bounds-read_decimals-start
 slice_bounds-read_decimals-start c = omega (arith, c.requires.0, front-most digit c.args.s.now)
 
-pub returns-in_default : goal.returns-in_default
-returns-in_default c = sym (no-decimals _ _ _ c.requires.0 c.requires.1 c.if-n-eq0.false (sym c.read_decimals-t.ensures ∙ ap percent_or c.in_default.is))
+pub returns-in_err-h : goal.returns-in_err-h
+returns-in_err-h c = rw c.from_residual.ensures (sym (no-decimals _ _ _ c.requires.0 c.requires.1 c.if-n-eq0.false (sym c.read_decimals.ensures ∙ ap percent_or c.in_err-h.was)))
 
 pub returns-then-p-gt10000 : goal.returns-then-p-gt10000
-returns-then-p-gt10000 c = sym (too_much _ _ _ c.requires.0 c.requires.1 c.if-n-eq0.false _ (sym c.read_decimals-t.ensures ∙ ap percent_or c.in-Of.is) c.if-p-gt10000.true)
+returns-then-p-gt10000 c = sym (too_much _ _ _ c.requires.0 c.requires.1 c.if-n-eq0.false _ (sym c.read_decimals.ensures ∙ ap percent_or c.in_ok-h.was) c.if-p-gt10000.true)
 
 pub returns : goal.returns
-returns c = sym (percent-is _ _ _ c.requires.0 c.requires.1 c.if-n-eq0.false _ (sym c.read_decimals-t.ensures ∙ ap percent_or c.in-Of.is) c.if-p-gt10000.false)
+returns c = sym (percent-is _ _ _ c.requires.0 c.requires.1 c.if-n-eq0.false _ (sym c.read_decimals.ensures ∙ ap percent_or c.in_ok-h.was) c.if-p-gt10000.false)

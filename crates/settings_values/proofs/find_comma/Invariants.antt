@@ -1,5 +1,5 @@
 -- The run up to a comma ends where it ended from the bytes before.
-use Prim.Native.Nat.{◌≤◌, ◌-◌}
+use Prim.Native.Nat.{◌≤◌}
 use mathlib.Core.Path.{◌≡◌}
 use lib.ListN.{length}
 use Rattle.settings.specs.Reading.{not_comma}
@@ -8,6 +8,3 @@ use Rattle.settings_values.proofs.find_comma.Given as goal
 
 abbrev pub invariant-loop-i : goal.invariant-loop-i
 invariant-loop-i l = (l.i ≤ length l.s) × (run_end not_comma l.s l.i ≡ run_end not_comma l.s 0)
-
-abbrev pub decreases-loop-i : goal.decreases-loop-i
-decreases-loop-i l = length l.s - l.i

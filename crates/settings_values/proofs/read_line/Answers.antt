@@ -12,8 +12,8 @@ returns-then-s-eq45 c = c.read_negative.ensures ∙ sym (line-minus _ c.if-s-eq0
 pub returns-then-s-d : goal.returns-then-s-d
 returns-then-s-d c = c.end_number.ensures ∙ sym (line-number _ _ c.read_digits-d.ensures.0 c.if-s-eq0.false c.if-s-eq45.false c.if-s-d.true)
 
-pub returns-in-Of : goal.returns-in-Of
-returns-in-Of c = rw (← c.end_percent-t.ensures, c.in-Of.is) at (sym (line-percent _ _ c.read_digits-d.ensures.0 c.if-s-eq0.false c.if-s-eq45.false c.if-s-d.false))
+pub returns-in-Some : goal.returns-in-Some
+returns-in-Some c = rw (← c.end_percent-t.ensures, c.in-Some.is) at (sym (line-percent _ _ c.read_digits-d.ensures.0 c.if-s-eq0.false c.if-s-eq45.false c.if-s-d.false))
 
-pub returns-in-Wrong : goal.returns-in-Wrong
-returns-in-Wrong c = rw (← c.end_percent-t.ensures, c.in-Wrong.is) at (sym (line-percent _ _ c.read_digits-d.ensures.0 c.if-s-eq0.false c.if-s-eq45.false c.if-s-d.false))
+pub returns-in-None : goal.returns-in-None
+returns-in-None c = rw (← c.end_percent-t.ensures, c.in-None.is) at (sym (line-percent _ _ c.read_digits-d.ensures.0 c.if-s-eq0.false c.if-s-eq45.false c.if-s-d.false))

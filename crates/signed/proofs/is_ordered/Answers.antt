@@ -7,6 +7,6 @@ pub returns-then-at_most : goal.returns-then-at_most
 unfolding ordered
 returns-then-at_most c = rw (sym c.at_most.ensures ∙ c.if-at_most.true) c.at_most-then-at_most.ensures
 
-pub returns : goal.returns
+pub returns-else-at_most : goal.returns-else-at_most
 unfolding ordered
-returns c = rw (sym c.at_most.ensures ∙ c.if-at_most.false)
+returns-else-at_most c = rw (sym c.at_most.ensures ∙ c.if-at_most.false) c.if-at_most.false

@@ -8,6 +8,6 @@ pub returns-then-v-lt32768 : goal.returns-then-v-lt32768
 unfolding shift16
 returns-then-v-lt32768 c = (simp (lt-ltb _ _ c.if-v-lt32768.true), omega arith)
 
-pub returns : goal.returns
+pub returns-else-v-lt32768 : goal.returns-else-v-lt32768
 unfolding shift16
-returns c = (simp (le-ltb _ _ c.if-v-lt32768.false), omega arith)
+returns-else-v-lt32768 c = (simp (le-ltb _ _ c.if-v-lt32768.false), omega arith)

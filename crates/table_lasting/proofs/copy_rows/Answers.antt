@@ -1,4 +1,3 @@
-use Prim.Native.Nat.{◌-◌}
 use native.Mathlib.Omega.{arith}
 use Rattle.table.specs.Table.{row_count}
 use Rattle.table_lasting.proofs.Turns.{copied_none, copied-long, copied-inside, copied-dropped, run_inside, run_room, copied-run, copied_all}

@@ -1,5 +1,6 @@
-use Prim.Native.Nat.{◌-◌}
-use mathlib.Core.Path.{sym, ◌∙◌}
+use Prim.Native.Nat.{◌/◌}
+use lib.ListN.{length}
+use mathlib.Core.Path.{◌≡◌, sym, ◌∙◌}
 use native.Mathlib.Omega.{arith}
 use Rattle.table.specs.Table.{row_count}
 use Rattle.table_lasting.proofs.Runs.{lasts-none, lasts-within, lasts-more}
@@ -19,18 +20,13 @@ size_at-bytes-requires c = omega arith
 
 pub overflow_add-bytes : goal.overflow_add-bytes
 unfolding row_count
-overflow_add-bytes c = omega (arith, lasts-within _ _ _ _ c.loop-i.invariant c.loop-i-test.true _ c.size_at-bytes.ensures.0, c.requires.1)
-
-pub overflow_add-i : goal.overflow_add-i
-overflow_add-i c = omega arith
-
-pub loop-i-smaller : goal.loop-i-smaller
-loop-i-smaller c = omega arith
+overflow_add-bytes c = omega (arith, lasts-within _ _ _ _ c.loop-i.invariant (omega arith) _ c.size_at-bytes.ensures.0, c.requires.1)
 
 pub loop-i-preserved : goal.loop-i-preserved
 unfolding row_count
-loop-i-preserved c = lasts-more _ _ _ _ c.loop-i.invariant c.loop-i-test.true _ c.size_at-bytes.ensures.0 (λ z. c.if-duration_at-eq0.false (c.duration_at.ensures.0 ∙ z))
+loop-i-preserved c = lasts-more _ _ _ _ c.loop-i.invariant (omega arith) _ c.size_at-bytes.ensures.0 (λ z. c.if-duration_at-eq0.false (c.duration_at.ensures.0 ∙ z))
 
 pub returns : goal.returns
 unfolding row_count
-returns c = record { run = c.loop-i.invariant; stops = λ h. absurd (omega arith) }
+returns c = let e : c.loop-i.i ≡ length c.args.table.now / 8 = omega arith in
+    record { run = rw e at c.loop-i.invariant; stops = λ h. absurd (omega arith) }

@@ -1,9 +1,10 @@
-use Prim.Native.Nat.{◌-◌}
+use Prim.Native.Nat.{◌+◌}
 use mathlib.Core.Path.{refl, sym, ◌∙◌}
 use native.Mathlib.Omega.{arith}
 use Rattle.base.proofs.Choice.{true-false}
 use Rattle.text.proofs.Marks.{none_pass, lined-more, lined-last, lined-keeps, dashless-keeps}
 use Rattle.text.proofs.is_lined.Goals as goal
+use Rattle.text.proofs.is_lined.Goals.{else-loop-i-test, then-loop-i-test+else-not-is_lined8+else-last-i-gt8}
 
 pub returns-then-n-lt8 : goal.returns-then-n-lt8
 returns-then-n-lt8 c h = dashless-keeps _ (λ j. (c.type_inv.s j).fits) (sym c.is_unmarked.ensures ∙ h)
@@ -22,4 +23,11 @@ loop-i-preserved c =
     (omega (arith, c.loop-i-test.true), lined-more _ _ 8 c.loop-i.invariant.1 (sym c.is_lined8.ensures ∙ c.if-not-is_lined8.false))
 
 pub returns : goal.returns
-returns c h = lined-keeps _ (λ j. (c.type_inv.s j).fits) (lined-last _ _ 8 _ (omega arith) c.loop-i-test.false c.loop-i.invariant.1 (sym c.is_unmarked8.ensures ∙ h))
+returns c h =
+    let last = sym c.is_unmarked8.ensures ∙ h in
+    elim c.loop-i-test.branch [
+      | else-loop-i-test w ↦ lined-keeps _ (λ j. (c.type_inv.s j).fits) (lined-last _ c.loop-i.i 8 _ (omega arith) (omega (arith, w.loop-i-test.false)) c.loop-i.invariant.1 last)
+      | then-loop-i-test+else-not-is_lined8+else-last-i-gt8 w ↦
+          lined-keeps _ (λ j. (c.type_inv.s j).fits)
+          (lined-last _ (c.loop-i.i + 8) 8 _ (omega arith) (omega arith) (lined-more _ _ 8 c.loop-i.invariant.1 (sym w.is_lined8.ensures ∙ w.if-not-is_lined8.false)) last)
+    ]

@@ -1,4 +1,4 @@
--- The bytes before i are lined, and i is inside the text.
+-- The bytes before i pass, and i is inside the text.
 use Prim.Native.Nat.{◌-◌, ◌<◌}
 use Rattle.text.proofs.Marks.{lined_at, Passes}
 use Rattle.text.proofs.is_lined.Given as goal

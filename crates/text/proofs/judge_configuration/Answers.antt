@@ -7,6 +7,6 @@ pub returns-then-n-lt6 : goal.returns-then-n-lt6
 unfolding webvtt
 returns-then-n-lt6 c = configuration-off _ _ c.agreeing-n.ensures.0 c.if-n-lt6.true
 
-pub returns : goal.returns
+pub returns-else-n-lt6 : goal.returns-else-n-lt6
 unfolding webvtt
-returns c = c.judge_label.ensures ∙ configuration-judged _ _ c.agreeing-n.ensures.0 c.if-n-lt6.false
+returns-else-n-lt6 c = c.judge_label.ensures ∙ configuration-judged _ _ c.agreeing-n.ensures.0 c.if-n-lt6.false

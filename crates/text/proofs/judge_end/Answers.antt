@@ -8,8 +8,8 @@ returns-in_default c = rw c.in_default.is
 
 pub returns-then-ends_line : goal.returns-then-ends_line
 unfolding unended
-returns-then-ends_line c = rw (c.in-Right.is, sym c.ends_line.ensures ∙ c.if-ends_line.true)
+returns-then-ends_line c = rw (c.in-Ok.is, sym c.ends_line.ensures ∙ c.if-ends_line.true)
 
-pub returns : goal.returns
+pub returns-else-ends_line : goal.returns-else-ends_line
 unfolding unended
-returns c = rw (c.in-Right.is, sym c.ends_line.ensures ∙ c.if-ends_line.false)
+returns-else-ends_line c = rw (c.in-Ok.is, sym c.ends_line.ensures ∙ c.if-ends_line.false)

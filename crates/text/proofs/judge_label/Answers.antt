@@ -1,5 +1,5 @@
 use mathlib.Core.Path.{ap, ◌∙◌}
-use Rattle.viable.specs.declared.Judged.{Judged}
+use Rattle.viable.specs.Judged.{Judged}
 use Rattle.text.specs.Beginnings.{unended}
 use Rattle.text.proofs.Begun.{label-judged}
 use Rattle.text.proofs.judge_label.Goals as goal

@@ -1,12 +1,9 @@
--- `times::is_within` meets its contract, test by test.
-use borrow.Author.Tests.{le-leb, lt-leb}
+use Rattle.std.proofs.Common.{arith}
+use Rattle.std.proofs.lemmas.Grind.{common_steps}
+use Rattle.std.proofs.lemmas.Bool.Decides.{nat_tests}
 use Rattle.base.specs.Choice.{within}
 use Rattle.times.proofs.is_within.Goals as goal
 
-pub returns-then-x-low : goal.returns-then-x-low
-unfolding within
-returns-then-x-low c = simp (lt-leb _ _ c.if-x-low.true)
-
 pub returns : goal.returns
 unfolding within
-returns c = simp (le-leb _ _ c.if-x-low.false)
+returns c = grind (arith, common_steps, nat_tests, c.contains.ensures.value)

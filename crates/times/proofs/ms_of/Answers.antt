@@ -1,13 +1,11 @@
--- `times::ms_of` meets its contract: the quotient, and one more where something is left.
-use native.Mathlib.Omega.{arith}
-use Rattle.times.proofs.Laws.{back-even, back_more}
+-- `times::ms_of` meets its contract: the quotient, rounded up.
+use Prim.Native.Nat.{ℕ, min, ◌+◌, ◌*◌, ◌/◌, ◌%◌}
+use mathlib.Core.Path.{◌≡◌, ap, ◌∙◌}
+use Rattle.times.proofs.Laws.{back-ceil}
 use Rattle.times.proofs.ms_of.Goals as goal
 
-pub returns-then-t-scale-eq0 : goal.returns-then-t-scale-eq0
-returns-then-t-scale-eq0 c = back-even _ _ c.requires.0 c.if-t-scale-eq0.true
-
-pub overflow_add-result : goal.overflow_add-result
-overflow_add-result c = omega (arith, (back_more _ _ c.requires.0 c.if-t-scale-eq0.false).1)
-
 pub returns : goal.returns
-returns c = back_more _ _ c.requires.0 c.if-t-scale-eq0.false
+returns c =
+    let n = c.args.t * 1000 in
+    let e : c.div_ceil.result ≡ n / c.args.scale + min 1 (n % c.args.scale) = c.div_ceil.ensures ∙ ap (λ (x : ℕ). n / x + min 1 (n % x)) c.from.ensures in
+    rw e (back-ceil c.args.scale c.args.t c.requires.0)

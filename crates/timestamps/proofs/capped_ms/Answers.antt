@@ -1,13 +1,9 @@
 -- A time above 100 hours is answered as 100 hours.
 use mathlib.Core.Path.{ap}
 use native.Mathlib.Omega.{arith}
-use Rattle.timestamps.specs.declared.Timestamp.TheVariants.{Ms}
+use Rattle.timestamps.specs.Timestamp.{Ms}
 use Rattle.timestamps.specs.Timestamps.{capped}
 use Rattle.timestamps.proofs.capped_ms.Goals as goal
-
-pub returns-then-t-gt360000000 : goal.returns-then-t-gt360000000
-unfolding capped
-returns-then-t-gt360000000 c = ap Ms (omega arith)
 
 pub returns : goal.returns
 unfolding capped

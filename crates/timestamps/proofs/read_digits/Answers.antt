@@ -1,9 +1,9 @@
-use Prim.Native.Nat.{ℕ, ◌+◌, ◌*◌, ◌-◌, min}
+use Prim.Native.Nat.{ℕ, ◌+◌, ◌*◌, min}
 use mathlib.Core.Path.{◌≡◌, sym, ap, ◌∙◌}
 use native.Mathlib.Omega.{arith}
+use lib.ListN.{length}
 use Rattle.timestamps.specs.Timestamps.{digit}
 use Rattle.timestamps.proofs.Laws.{counting-start, counting_more, counting-stop, counting-end}
-use Rattle.timestamps.proofs.read_digits.Goals.{then-most-number, else-most-number}
 use Rattle.timestamps.proofs.read_digits.Goals as goal
 
 pub loop-i-init : goal.loop-i-init
@@ -23,16 +23,13 @@ number_of-requires c = sym c.is_within.ensures ∙ c.if-not-is_within.false
 pub overflow_add-number : goal.overflow_add-number
 overflow_add-number c = record { fits = omega (arith, c.loop-i.invariant.small, c.number_of.ensures.1) }
 
-pub loop-i-smaller : goal.loop-i-smaller
-loop-i-smaller c = omega (arith, c.loop-i-test.true)
-
 pub loop-i-preserved : goal.loop-i-preserved
 unfolding digit
 loop-i-preserved c =
-    let w : c.if-most-number.number ≡ min (c.loop-i.number * 10 + c.number_of.result) c.args.most =
-    elim c.if-most-number.branch [ then-most-number w ↦ omega (arith, w.if-most-number.true, w.number-is) | else-most-number w ↦ omega (arith, w.if-most-number.false, w.number-is) ] in
     counting_more _ _ _ _ _ c.loop-i-test.true (sym c.is_within.ensures ∙ c.if-not-is_within.false)
-    (w ∙ ap (λ (x : ℕ). min (c.loop-i.number * 10 + x) c.args.most) c.number_of.ensures.0) c.loop-i.invariant
+    (c.min-number.ensures ∙ ap (λ (x : ℕ). min (c.loop-i.number * 10 + x) c.args.most) c.number_of.ensures.0) c.loop-i.invariant
 
 pub returns : goal.returns
-returns c = counting-end _ _ _ _ c.loop-i-test.false c.loop-i.invariant
+returns c =
+    let e : c.loop-i.i ≡ length c.args.s.now = omega arith in
+    let w = counting-end _ _ _ _ c.loop-i-test.false c.loop-i.invariant in (sym e ∙ w.0, w.1)

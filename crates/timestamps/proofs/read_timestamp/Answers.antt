@@ -2,7 +2,7 @@
 use Prim.Native.Nat.{ℕ}
 use mathlib.Core.Path.{sym, ap, ◌∙◌}
 use native.Mathlib.Omega.{arith}
-use Rattle.timestamps.specs.declared.Timestamp.TheVariants.{Ms}
+use Rattle.timestamps.specs.Timestamp.{Ms}
 use Rattle.timestamps.specs.Timestamps.{capped, answered}
 use Rattle.timestamps.proofs.Laws.{nine-is, nine-not, not-nine, uncapped}
 use Rattle.timestamps.proofs.read_timestamp.Goals as goal

@@ -2,7 +2,7 @@
 use Prim.Native.Nat.{ℕ, ◌+◌, ◌*◌}
 use mathlib.Core.Path.{sym, ap, ap₂, ◌∙◌}
 use native.Mathlib.Omega.{arith}
-use Rattle.timestamps.specs.declared.Timestamp.TheVariants.{Ms}
+use Rattle.timestamps.specs.Timestamp.{Ms}
 use Rattle.timestamps.specs.Timestamps.{COLON, capped, answered}
 use Rattle.timestamps.proofs.Laws.{pair-first, pair-second, usual-not, usual-no-minutes, usual-is, uncapped}
 use Rattle.timestamps.proofs.read_usual.Goals as goal

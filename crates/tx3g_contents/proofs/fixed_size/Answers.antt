@@ -1,17 +1,17 @@
 -- `tx3g_contents::fixed_size` meets its contract.
 use Rattle.tx3g_contents.specs.Contents.{fixed_size}
-use borrow.Author.Tests.{eq-eqb, ne_eqb}
+use Rattle.std.proofs.lemmas.Bool.Decides.{nat_tests}
 use native.Mathlib.Omega.{arith}
 use Rattle.tx3g_contents.proofs.fixed_size.Goals as goal
 
-pub returns-then-kind-eq-TBOX : goal.returns-then-kind-eq-TBOX
+pub returns-in-1952608120 : goal.returns-in-1952608120
 unfolding fixed_size
-returns-then-kind-eq-TBOX c = (simp (eq-eqb _ _ c.if-kind-eq-TBOX.true), omega arith)
+returns-in-1952608120 c = (rw c.in-1952608120.is, omega arith)
 
-pub returns-then-kind-eq-TWRP : goal.returns-then-kind-eq-TWRP
+pub returns-in-1953985136 : goal.returns-in-1953985136
 unfolding fixed_size
-returns-then-kind-eq-TWRP c = (simp (ne_eqb _ _ c.if-kind-eq-TBOX.false, eq-eqb _ _ c.if-kind-eq-TWRP.true), omega arith)
+returns-in-1953985136 c = (rw c.in-1953985136.is, omega arith)
 
-pub returns : goal.returns
+pub returns-in_default : goal.returns-in_default
 unfolding fixed_size
-returns c = (simp (ne_eqb _ _ c.if-kind-eq-TBOX.false, ne_eqb _ _ c.if-kind-eq-TWRP.false), omega arith)
+returns-in_default c = (grind (arith, nat_tests), omega arith)

@@ -6,6 +6,6 @@ pub returns-then-is_single : goal.returns-then-is_single
 unfolding known
 returns-then-is_single c = simp (← c.is_single.ensures, c.if-is_single.true)
 
-pub returns : goal.returns
+pub returns-else-is_single : goal.returns-else-is_single
 unfolding known
-returns c = simp (← c.is_single.ensures, c.if-is_single.false, c.is_ranged.ensures)
+returns-else-is_single c = simp (← c.is_single.ensures, c.if-is_single.false, c.is_ranged.ensures)

@@ -1,16 +1,13 @@
 -- `tx3g_contents::is_ranged` meets its contract.
 use Rattle.tx3g_contents.specs.Kinds.{ranged}
-use borrow.Author.Tests.{eq-eqb, ne_eqb}
+use Rattle.std.proofs.lemmas.Bool.Decides.{nat_tests}
+use native.Mathlib.Omega.{arith}
 use Rattle.tx3g_contents.proofs.is_ranged.Goals as goal
 
-pub returns-then-kind-eq-HLIT : goal.returns-then-kind-eq-HLIT
+pub returns-in-1751935348 : goal.returns-in-1751935348
 unfolding ranged
-returns-then-kind-eq-HLIT c = simp (eq-eqb _ _ c.if-kind-eq-HLIT.true)
+returns-in-1751935348 c = grind (arith, nat_tests)
 
-pub returns-then-kind-eq-BLNK : goal.returns-then-kind-eq-BLNK
+pub returns-in_default : goal.returns-in_default
 unfolding ranged
-returns-then-kind-eq-BLNK c = rw (ne_eqb _ _ c.if-kind-eq-HLIT.false, eq-eqb _ _ c.if-kind-eq-BLNK.true)
-
-pub returns : goal.returns
-unfolding ranged
-returns c = rw (ne_eqb _ _ c.if-kind-eq-HLIT.false, ne_eqb _ _ c.if-kind-eq-BLNK.false)
+returns-in_default c = grind (arith, nat_tests)

@@ -1,20 +1,21 @@
 -- `tx3g_contents::judge_content` meets its contract.
 use Rattle.tx3g_contents.specs.Contents.{content_end}
-use borrow.Author.Tests.{eq-eqb, ne_eqb}
+use borrow.Author.Tests.{ne_eqb}
+use native.Mathlib.Omega.{arith}
 use Rattle.tx3g_contents.proofs.judge_content.Goals as goal
 
-pub returns-then-kind-eq-STYL : goal.returns-then-kind-eq-STYL
+pub returns-in-1937013100 : goal.returns-in-1937013100
 unfolding content_end
-returns-then-kind-eq-STYL c = rw (eq-eqb _ _ c.if-kind-eq-STYL.true) c.judge_styles_end.ensures
+returns-in-1937013100 c = rw c.in-1937013100.is c.judge_styles_end.ensures
 
-pub returns-then-kind-eq-KROK : goal.returns-then-kind-eq-KROK
+pub returns-in-1802661739 : goal.returns-in-1802661739
 unfolding content_end
-returns-then-kind-eq-KROK c = rw (ne_eqb _ _ c.if-kind-eq-STYL.false, eq-eqb _ _ c.if-kind-eq-KROK.true) c.judge_karaoke_end.ensures
+returns-in-1802661739 c = rw c.in-1802661739.is c.judge_karaoke_end.ensures
 
-pub returns-then-kind-eq-HREF : goal.returns-then-kind-eq-HREF
+pub returns-in-1752327526 : goal.returns-in-1752327526
 unfolding content_end
-returns-then-kind-eq-HREF c = rw (ne_eqb _ _ c.if-kind-eq-STYL.false, ne_eqb _ _ c.if-kind-eq-KROK.false, eq-eqb _ _ c.if-kind-eq-HREF.true) c.judge_link_end.ensures
+returns-in-1752327526 c = rw c.in-1752327526.is c.judge_link_end.ensures
 
-pub returns : goal.returns
+pub returns-in_default : goal.returns-in_default
 unfolding content_end
-returns c = rw (ne_eqb _ _ c.if-kind-eq-STYL.false, ne_eqb _ _ c.if-kind-eq-KROK.false, ne_eqb _ _ c.if-kind-eq-HREF.false, ← c.fixed_size-size.ensures.0) c.judge_end.ensures
+returns-in_default c = rw (ne_eqb c.args.kind 0x7374796C (λ e. omega arith), ne_eqb c.args.kind 0x6B726F6B (λ e. omega arith), ne_eqb c.args.kind 0x68726566 (λ e. omega arith), ← c.fixed_size.ensures.0) c.judge_end.ensures

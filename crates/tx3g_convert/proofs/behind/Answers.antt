@@ -1,11 +1,16 @@
 -- A cue is counted where there are bytes.
-use native.Mathlib.Numerals.{add-one}
-use borrow.Author.Tests.{lt-ltb, le-ltb}
-use Rattle.tx3g_convert.proofs.behind.Goals.{then-n-gt0, else-n-gt0}
+use Prim.Native.Nat.{ℕ, ◌+◌}
+use mathlib.Core.Bool.{Bool, true, false}
+use mathlib.Core.Path.{◌≡◌}
+use native.Mathlib.Omega.{arith}
+use lib.Dec.{ltb}
+use mir.Val.{bool_byte}
+use Rattle.tx3g_convert.specs.Convert.{counting}
 use Rattle.tx3g_convert.proofs.behind.Goals as goal
 
+counting-is : (t : Bool) (k : ℕ) → k + bool_byte t ≡ counting t k
+counting-is true k = omega arith
+counting-is false k = omega arith
+
 pub returns : goal.returns
-returns c = elim c.if-n-gt0.branch [
-  | then-n-gt0 w ↦ rw (w.cues-is, lt-ltb 0 _ w.if-n-gt0.true) (rw add-one)
-  | else-n-gt0 w ↦ rw (w.cues-is, le-ltb 0 _ w.if-n-gt0.false)
-]
+returns c = rw (c.from.ensures, counting-is (ltb 0 c.args.n) c.args.state.cues)

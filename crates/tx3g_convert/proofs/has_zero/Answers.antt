@@ -1,4 +1,3 @@
-use Prim.Native.Nat.{◌-◌}
 use mathlib.Core.Path.{◌∙◌, ap}
 use native.Mathlib.Omega.{arith}
 use native.Mathlib.Numerals.{add-one}
@@ -7,11 +6,11 @@ use Rattle.tx3g_payload.specs.Statements.{has_zero}
 use Rattle.tx3g_convert.proofs.Zeros.{none_yet, zero-next, not-twice}
 use Rattle.tx3g_convert.proofs.has_zero.Goals as goal
 
-pub loop-i-init : goal.loop-i-init
-loop-i-init c = (omega arith, none_yet)
+pub loop-b-init : goal.loop-b-init
+loop-b-init c = none_yet
 
-pub loop-i-preserved : goal.loop-i-preserved
-loop-i-preserved c = (omega arith, rw add-one (zero-next _ _ c.loop-i.x c.zero_mark_of-x.result c.loop-i-test.true c.zero_mark_of-x.ensures c.loop-i.invariant.1))
+pub loop-b-preserved : goal.loop-b-preserved
+loop-b-preserved c = rw add-one (zero-next _ _ c.loop-b.x c.zero_mark_of-x.result (omega arith) c.zero_mark_of-x.ensures c.loop-b.invariant)
 
 pub returns : goal.returns
-returns c = not-twice _ _ c.loop-i.invariant.1 ∙ ap has_zero (take_all _ _ c.loop-i-test.false)
+returns c = not-twice _ _ c.loop-b.invariant ∙ ap has_zero (take_all _ _ (omega arith))

@@ -1,14 +1,10 @@
--- The invariant: x is 0 exactly if none of the bytes before i is zero.
-use Prim.Native.Nat.{◌-◌, ◌≤◌}
+-- The invariant: x is 0 exactly if none of the bytes before b is zero.
 use mathlib.Core.Path.{◌≡◌}
 use mathlib.Core.Bool.{not}
 use lib.Dec.{eqb}
-use lib.ListN.{length, take}
+use lib.ListN.{take}
 use Rattle.tx3g_payload.specs.Statements.{has_zero}
 use Rattle.tx3g_convert.proofs.has_zero.Given as goal
 
-abbrev pub invariant-loop-i : goal.invariant-loop-i
-invariant-loop-i l = (l.i ≤ length l.s) × (eqb l.x 0 ≡ not (has_zero (take l.i l.s)))
-
-abbrev pub decreases-loop-i : goal.decreases-loop-i
-decreases-loop-i l = length l.s - l.i
+abbrev pub invariant-loop-b : goal.invariant-loop-b
+invariant-loop-b l = eqb l.x 0 ≡ not (has_zero (take l.b-index l.s))

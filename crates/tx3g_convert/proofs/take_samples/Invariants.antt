@@ -1,5 +1,4 @@
 -- Sample by sample to the end.
-use Prim.Native.Nat.{◌-◌, ◌≤◌}
 use mathlib.Core.Path.{◌≡◌}
 use lib.ListN.{length}
 use Rattle.table.specs.Table.{offset_of}
@@ -7,7 +6,4 @@ use Rattle.tx3g_convert.proofs.States.{Stands}
 use Rattle.tx3g_convert.proofs.take_samples.Given as goal
 
 abbrev pub invariant-loop-i : goal.invariant-loop-i
-invariant-loop-i l = (l.i ≤ l.count) × (l.at ≡ offset_of l.table l.i) × (length l.buf ≡ 4128) × Stands l.scale l.e l.table l.samples l.i l.state
-
-abbrev pub decreases-loop-i : goal.decreases-loop-i
-decreases-loop-i l = l.count - l.i
+invariant-loop-i l = (l.at ≡ offset_of l.table l.i) × (length l.buf ≡ 4128) × Stands l.scale l.e l.table l.samples l.i l.state

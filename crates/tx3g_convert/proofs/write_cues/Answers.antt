@@ -1,4 +1,4 @@
-use Prim.Native.Nat.{◌+◌, ◌-◌, ◌≤◌}
+use Prim.Native.Nat.{◌+◌, ◌≤◌}
 use mathlib.Core.Path.{refl, sym, ◌∙◌}
 use native.Mathlib.Omega.{arith}
 use lib.ListN.{length}
@@ -10,18 +10,18 @@ use Rattle.tx3g_convert.proofs.write_cues.Goals as goal
 
 pub loop-i-init : goal.loop-i-init
 unfolding offset_of
-loop-i-init c = (omega arith, refl, c.requires.1, first-stands _ _ _ _, refl, refl, none_written _ _ _ _)
+loop-i-init c = (refl, c.requires.1, first-stands _ _ _ _, refl, refl, none_written _ _ _ _)
 
 pub overflow_add-end : goal.overflow_add-end
 unfolding row_count
 overflow_add-end c =
-    let ends : c.loop-i.at + c.size_at.result ≤ length c.args.samples.now = row_ends _ _ _ c.requires.0.track _ _ _ c.loop-i-test.true c.loop-i.invariant.1 c.size_at.ensures.0 in
+    let ends : c.loop-i.at + c.size_at.result ≤ length c.args.samples.now = row_ends _ _ _ c.requires.0.track _ _ _ (omega arith) c.loop-i.invariant.0 c.size_at.ensures.0 in
     omega (arith, ends)
 
 pub slice_bounds-write_sample-end : goal.slice_bounds-write_sample-end
 unfolding row_count
 slice_bounds-write_sample-end c =
-    let ends : c.loop-i.at + c.size_at.result ≤ length c.args.samples.now = row_ends _ _ _ c.requires.0.track _ _ _ c.loop-i-test.true c.loop-i.invariant.1 c.size_at.ensures.0 in
+    let ends : c.loop-i.at + c.size_at.result ≤ length c.args.samples.now = row_ends _ _ _ c.requires.0.track _ _ _ (omega arith) c.loop-i.invariant.0 c.size_at.ensures.0 in
     omega (arith, ends)
 
 pub write_sample-state-requires : goal.write_sample-state-requires
@@ -29,15 +29,14 @@ unfolding row_count
 write_sample-state-requires c =
     let p = c.requires.0 in
     let l = c.loop-i.invariant in
-    let h = c.loop-i-test.true in
     let z = c.size_at.ensures.0 in
     let d = c.duration_at-duration.ensures in (
       p.scaled,
-      turn_low _ _ _ _ _ h _ l.3 _ d.0 d.1 (omega (arith, rows_few _ _ _ p.track)),
+      turn_low _ _ _ _ _ (omega arith) _ l.2 _ d.0 d.1 (omega (arith, rows_few _ _ _ p.track)),
       p.entry,
-      row_fine _ _ _ p.track _ _ _ h l.1 z,
-      l.2,
-      sample-fits _ _ _ _ _ h _ l.3 p.fine _ _ (row-bytes _ _ _ p.track _ _ _ h l.1 z) d.0 _ _ (omega (arith, p.records_fit, l.4)) (omega (arith, p.pool_fits, l.5)),
+      row_fine _ _ _ p.track _ _ _ (omega arith) l.0 z,
+      l.1,
+      sample-fits _ _ _ _ _ (omega arith) _ l.2 p.fine _ _ (row-bytes _ _ _ p.track _ _ _ (omega arith) l.0 z) d.0 _ _ (omega (arith, p.records_fit, l.3)) (omega (arith, p.pool_fits, l.4)),
     )
 
 pub loop-i-preserved : goal.loop-i-preserved
@@ -45,32 +44,30 @@ unfolding row_count
 loop-i-preserved c =
     let p = c.requires.0 in
     let l = c.loop-i.invariant in
-    let h = c.loop-i-test.true in
     let z = c.size_at.ensures.0 in
     let d = c.duration_at-duration.ensures in
-    let b = row-bytes _ _ _ p.track _ _ _ h l.1 z in (
-      omega arith,
-      row_next _ _ _ p.track _ _ _ h l.1 z,
-      c.write_sample-state.auto.buf ∙ l.2,
-      sample-on _ _ _ _ _ h _ l.3 p.fine _ _ b d.0 d.1 _ c.write_sample-state.ensures.0,
-      c.write_sample-state.auto.records ∙ l.4,
-      c.write_sample-state.auto.pool ∙ l.5,
-      sample-written _ _ _ _ _ h _ l.3 p.fine _ _ b d.0 _ _ _ _ _ _ l.6 _ c.write_sample-state.ensures,
+    let b = row-bytes _ _ _ p.track _ _ _ (omega arith) l.0 z in (
+      row_next _ _ _ p.track _ _ _ (omega arith) l.0 z,
+      c.write_sample-state.auto.buf ∙ l.1,
+      sample-on _ _ _ _ _ (omega arith) _ l.2 p.fine _ _ b d.0 d.1 _ c.write_sample-state.ensures.0,
+      c.write_sample-state.auto.records ∙ l.3,
+      c.write_sample-state.auto.pool ∙ l.4,
+      sample-written _ _ _ _ _ (omega arith) _ l.2 p.fine _ _ b d.0 _ _ _ _ _ _ l.5 _ c.write_sample-state.ensures,
     )
 
 pub shape_of-buf : goal.shape_of-buf
-shape_of-buf c = c.loop-i.invariant.2 ∙ sym c.requires.1
+shape_of-buf c = c.loop-i.invariant.1 ∙ sym c.requires.1
 
 pub shape_of-records : goal.shape_of-records
-shape_of-records c = c.loop-i.invariant.4
+shape_of-records c = c.loop-i.invariant.3
 
 pub shape_of-pool : goal.shape_of-pool
-shape_of-pool c = c.loop-i.invariant.5
+shape_of-pool c = c.loop-i.invariant.4
 
 pub returns : goal.returns
 unfolding row_count
 returns c =
     let p = c.requires.0 in
     let l = c.loop-i.invariant in
-    let w = last-stands _ _ _ _ _ _ l.3 c.loop-i-test.false (omega (arith, l.0, rows_few _ _ _ p.track)) in
-    all-written _ _ _ _ _ _ _ w.counted l.6
+    let w = last-stands _ _ _ _ _ _ l.2 (omega arith) (omega (arith, rows_few _ _ _ p.track)) in
+    all-written _ _ _ _ _ _ _ w.counted l.5

@@ -1,8 +1,6 @@
-use borrow.Author.Tests.{eq-eqb, ne_eqb}
+use mathlib.Core.Path.{◌∙◌}
+use Rattle.tx3g_tidy.proofs.Marks.{one-if}
 use Rattle.tx3g_convert.proofs.zero_mark_of.Goals as goal
 
-pub returns-then-b-eq0 : goal.returns-then-b-eq0
-returns-then-b-eq0 c = simp (eq-eqb _ _ c.if-b-eq0.true)
-
 pub returns : goal.returns
-returns c = simp (ne_eqb _ _ c.if-b-eq0.false)
+returns c = c.from.ensures ∙ one-if _

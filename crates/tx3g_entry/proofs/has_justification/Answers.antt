@@ -6,6 +6,6 @@ pub returns-then-is_justified : goal.returns-then-is_justified
 unfolding justified_entry
 returns-then-is_justified c = simp (← c.is_justified.ensures, c.if-is_justified.true, c.is_justified-then-is_justified.ensures)
 
-pub returns : goal.returns
+pub returns-else-is_justified : goal.returns-else-is_justified
 unfolding justified_entry
-returns c = simp (← c.is_justified.ensures, c.if-is_justified.false)
+returns-else-is_justified c = simp (← c.is_justified.ensures, c.if-is_justified.false)

@@ -3,14 +3,14 @@ use Rattle.tx3g_entry.specs.Entry.{in_entry}
 use borrow.Author.Tests.{eq-eqb, ne_eqb}
 use Rattle.tx3g_entry.proofs.judge_box.Goals as goal
 
+pub returns-then-kind-ne-FTAB : goal.returns-then-kind-ne-FTAB
+unfolding in_entry
+returns-then-kind-ne-FTAB c = λ before m. simp (ne_eqb _ _ c.if-kind-ne-FTAB.true)
+
 pub returns-then-seen : goal.returns-then-seen
 unfolding in_entry
-returns-then-seen c = λ before m. simp (eq-eqb _ _ c.if-kind-eq-FTAB.true, ← m, c.if-seen.true, c.refused.ensures)
+returns-then-seen c = λ before m. simp (eq-eqb _ _ c.if-kind-ne-FTAB.false, ← m, c.if-seen.true, c.refused.ensures)
 
-pub returns-then-kind-eq-FTAB : goal.returns-then-kind-eq-FTAB
+pub returns-else-seen : goal.returns-else-seen
 unfolding in_entry
-returns-then-kind-eq-FTAB c = λ before m. simp (eq-eqb _ _ c.if-kind-eq-FTAB.true, ← m, c.if-seen.false, c.judge_fonts.ensures)
-
-pub returns : goal.returns
-unfolding in_entry
-returns c = λ before m. simp (ne_eqb _ _ c.if-kind-eq-FTAB.false)
+returns-else-seen c = λ before m. simp (eq-eqb _ _ c.if-kind-ne-FTAB.false, ← m, c.if-seen.false, c.judge_fonts.ensures)

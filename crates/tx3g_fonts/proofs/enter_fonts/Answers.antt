@@ -1,48 +1,37 @@
-use Rattle.tx3g_fonts.proofs.Laws.{font-zero, font-more, fonts-up, fonts-from, slots-zero, slots-more, slots-size}
+use Rattle.tx3g_fonts.proofs.Laws.{font-zero, font-more, font-room, fonts-from, slots-zero, slots-more, slots-size}
 use Rattle.fields.specs.BigEndian.{be}
 use lib.ListN.{length}
 use mathlib.Core.Path.{◌≡◌}
-use Prim.Native.Nat.{◌+◌, ◌-◌, ◌≤◌}
 use native.Mathlib.Omega.{arith}
 use Rattle.tx3g_fonts.proofs.enter_fonts.Goals as goal
 
 pub get16-count-requires : goal.get16-count-requires
-get16-count-requires c =
-    let start : c.args.body + 2 ≤ length c.args.s.now = let w = fonts-from c.args.s.now c.args.body (be 2 c.args.s.now c.args.body) in omega arith in
-    start
+get16-count-requires c = omega (arith, fonts-from c.args.s.now c.args.body (be 2 c.args.s.now c.args.body))
 
 pub overflow_add-at : goal.overflow_add-at
-overflow_add-at c = let w =
-    let start : c.args.body + 2 ≤ length c.args.s.now = let w = fonts-from c.args.s.now c.args.body (be 2 c.args.s.now c.args.body) in omega arith in
-    start in omega arith
+overflow_add-at c = omega (arith, fonts-from c.args.s.now c.args.body (be 2 c.args.s.now c.args.body))
 
 pub loop-k-init : goal.loop-k-init
-loop-k-init c = (font-zero _ _, omega arith, slots-zero c.args.s.now c.args.body _)
+loop-k-init c = (font-zero _ _, slots-zero c.args.s.now c.args.body _)
 
 pub get16-id-requires : goal.get16-id-requires
-get16-id-requires c = let w =
-    let room : c.loop-k.at + 3 ≤ length c.args.s.now = let w = fonts-up c.args.s.now c.args.body c.loop-k.k _ (rw c.get16-count.ensures.0 at c.loop-k-test.true) in
-    omega (arith, c.loop-k.invariant.0, c.requires.0) in
-    room in omega arith
+get16-id-requires c = omega (arith, font-room c.args.s.now c.args.body c.loop-k._k (be 2 c.args.s.now c.args.body) _ _ (omega (arith, c.get16-count.ensures.0)) c.loop-k.invariant.0 c.requires.0)
 
 pub bounds-slots-id : goal.bounds-slots-id
 bounds-slots-id c =
-    let size : length c.loop-k.slots ≡ length c.args.slots.now = rw c.loop-k.invariant.2 (slots-size _ _ _ _) in
+    let size : length c.loop-k.slots ≡ length c.args.slots.now = rw c.loop-k.invariant.1 (slots-size _ _ _ _) in
     omega (arith, size)
 
 pub pass_font-at-requires : goal.pass_font-at-requires
-pass_font-at-requires c =
-    let room : c.loop-k.at + 3 ≤ length c.args.s.now = let w = fonts-up c.args.s.now c.args.body c.loop-k.k _ (rw c.get16-count.ensures.0 at c.loop-k-test.true) in
-    omega (arith, c.loop-k.invariant.0, c.requires.0) in
-    room
+pass_font-at-requires c = font-room c.args.s.now c.args.body c.loop-k._k (be 2 c.args.s.now c.args.body) _ _ (omega (arith, c.get16-count.ensures.0)) c.loop-k.invariant.0 c.requires.0
 
 pub loop-k-preserved : goal.loop-k-preserved
-loop-k-preserved c = (font-more _ _ _ _ _ c.loop-k.invariant.0 c.pass_font-at.ensures.0, omega arith, slots-more _ _ _ _ _ _ _ c.loop-k.invariant.0 c.get16-id.ensures.0 c.loop-k.invariant.2)
+loop-k-preserved c = (font-more _ _ _ _ _ c.loop-k.invariant.0 c.pass_font-at.ensures.0, slots-more _ _ _ _ _ _ _ c.loop-k.invariant.0 c.get16-id.ensures.0 c.loop-k.invariant.1)
 
 pub shape_of-slots : goal.shape_of-slots
 shape_of-slots c =
-    let size : length c.loop-k.slots ≡ length c.args.slots.now = rw c.loop-k.invariant.2 (slots-size _ _ _ _) in
+    let size : length c.loop-k.slots ≡ length c.args.slots.now = rw c.loop-k.invariant.1 (slots-size _ _ _ _) in
     size
 
 pub returns : goal.returns
-returns c = let e : c.loop-k.k ≡ be 2 c.args.s.now c.args.body = omega (arith, c.get16-count.ensures.0) in rw (← e) c.loop-k.invariant.2
+returns c = let e : c.loop-k._k ≡ be 2 c.args.s.now c.args.body = omega (arith, c.get16-count.ensures.0) in rw (← e) c.loop-k.invariant.1

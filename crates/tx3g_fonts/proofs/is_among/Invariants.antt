@@ -2,11 +2,7 @@
 use Rattle.tx3g_fonts.specs.Fonts.{font_at, font_among}
 use mathlib.Core.Bool.{false}
 use mathlib.Core.Path.{◌≡◌}
-use Prim.Native.Nat.{◌-◌, ◌≤◌}
 use Rattle.tx3g_fonts.proofs.is_among.Given as goal
 
 abbrev pub invariant-loop-k : goal.invariant-loop-k
-invariant-loop-k l = (l.at ≡ font_at l.s l.body l.k) × (l.k ≤ l.count) × (font_among l.s l.body l.k l.id ≡ false)
-
-abbrev pub decreases-loop-k : goal.decreases-loop-k
-decreases-loop-k l = l.count - l.k
+invariant-loop-k l = (l.at ≡ font_at l.s l.body l._k) × (font_among l.s l.body l._k l.id ≡ false)

@@ -2,13 +2,9 @@
 use Rattle.tx3g_fonts.proofs.Laws.{Taken}
 use Rattle.tx3g_fonts.specs.Fonts.{font_at, fresh_font}
 use Rattle.verdict.specs.Judgement.{each}
-use Rattle.verdict.specs.declared.Verdict.TheVariants.{Fine}
+use Rattle.verdict.specs.Verdict.{Fine}
 use mathlib.Core.Path.{◌≡◌}
-use Prim.Native.Nat.{◌-◌, ◌≤◌}
 use Rattle.tx3g_fonts.proofs.judge_ids.Given as goal
 
 abbrev pub invariant-loop-k : goal.invariant-loop-k
-invariant-loop-k l = (l.at ≡ font_at l.s l.body l.k) × (l.k ≤ l.count) × (each (fresh_font l.s l.place l.body) l.k ≡ Fine) × Taken l.s l.body l.k l.taken
-
-abbrev pub decreases-loop-k : goal.decreases-loop-k
-decreases-loop-k l = l.count - l.k
+invariant-loop-k l = (l.at ≡ font_at l.s l.body l.k) × (each (fresh_font l.s l.place l.body) l.k ≡ Fine) × Taken l.s l.body l.k l.taken

@@ -1,11 +1,8 @@
 -- `tx3g_fonts::judge_walk` meets its contract. The invariant: where font k stands, and that this is within the body.
 use Rattle.tx3g_fonts.specs.Fonts.{font_at}
 use mathlib.Core.Path.{◌≡◌}
-use Prim.Native.Nat.{◌-◌, ◌≤◌}
+use Prim.Native.Nat.{◌≤◌}
 use Rattle.tx3g_fonts.proofs.judge_walk.Given as goal
 
 abbrev pub invariant-loop-k : goal.invariant-loop-k
-invariant-loop-k l = (l.at ≡ font_at l.s l.body l.k) × (l.k ≤ l.count) × (l.at ≤ l.next)
-
-abbrev pub decreases-loop-k : goal.decreases-loop-k
-decreases-loop-k l = l.count - l.k
+invariant-loop-k l = (l.at ≡ font_at l.s l.body l._k) × (l.at ≤ l.next)

@@ -1,15 +1,22 @@
+use Rattle.base.proofs.Results.{passed_on}
 use Rattle.tx3g_modifiers.proofs.Laws.{whole-end, next-stop, next-found, next-other}
 use Rattle.boxes.proofs.Laws.{step-box, not-box}
 use Rattle.boxes.specs.Boxes.{step_at}
 use Rattle.boxes.specs.declared.Step.TheVariants.{Box}
 use lib.ListN.{length}
 use mathlib.Core.Path.{◌≡◌, refl, sym, ◌∙◌}
-use Prim.Native.Nat.{◌-◌}
 use native.Mathlib.Omega.{arith}
 use Rattle.tx3g_modifiers.proofs.next_modifier.Goals as goal
 
+pub returns-in_err-stopped_by : goal.returns-in_err-stopped_by
+returns-in_err-stopped_by c =
+    let stops = next-stop _ _ _ _ (sym c.step_at-t.ensures) (not-box c.step_at-t.result c.in_default.not-Box) in
+    passed_on _ _ c.from_residual.ensures ∙ sym (stops ∙ rw (← c.stopped_by.ensures, c.in_err-stopped_by.was)) ∙ c.loop-kind.invariant
+
 pub returns-in_default : goal.returns-in_default
-returns-in_default c = c.held_end.ensures ∙ sym (next-stop _ _ _ _ (sym c.step_at-t.ensures) (not-box c.step_at-t.result c.in_default.not-Box)) ∙ c.loop-kind.invariant
+returns-in_default c =
+    let stops = next-stop _ _ _ _ (sym c.step_at-t.ensures) (not-box c.step_at-t.result c.in_default.not-Box) in
+    sym (stops ∙ rw (← c.stopped_by.ensures, c.in_ok-stopped_by.was)) ∙ c.loop-kind.invariant
 
 pub is_whole-requires : goal.is_whole-requires
 is_whole-requires c =

@@ -1,71 +1,58 @@
 -- `tx3g_modifiers::read_modifier` meets its contract.
 use Rattle.tx3g_modifiers.specs.Modifiers.{modifier_of}
+use Rattle.tx3g_contents.specs.Kinds.{styl, krok, href, tbox, twrp}
 use Rattle.tx3g_contents.proofs.Laws.{styles-past, karaoke-past, end-styl, end-krok, end-href, end-twrp, end-other}
-use lib.ListN.{length}
-use Prim.Native.Nat.{◌+◌, ◌≤◌}
-use borrow.Author.Tests.{eq-eqb, ne_eqb}
+use borrow.Author.Tests.{ne_eqb}
 use native.Mathlib.Omega.{arith}
 use Rattle.tx3g_modifiers.proofs.read_modifier.Goals as goal
 
 pub get16-requires : goal.get16-requires
-get16-requires c =
-    let styled : c.args.body + 2 ≤ length c.args.s.now = omega (arith, styles-past c.args.s.now c.args.body, end-styl c.args.s.now c.args.kind c.args.body c.if-kind-eq-STYL.true, c.requires) in
-    styled
+get16-requires c = omega (arith, styles-past c.args.s.now c.args.body, end-styl c.args.s.now c.args.kind c.args.body c.in-1937013100.is)
 
 pub overflow_add-result : goal.overflow_add-result
-overflow_add-result c =
-    let styled : c.args.body + 2 ≤ length c.args.s.now = omega (arith, styles-past c.args.s.now c.args.body, end-styl c.args.s.now c.args.kind c.args.body c.if-kind-eq-STYL.true, c.requires) in
-    let w = styled in omega arith
+overflow_add-result c = omega (arith, styles-past c.args.s.now c.args.body, end-styl c.args.s.now c.args.kind c.args.body c.in-1937013100.is)
 
-pub returns-then-kind-eq-STYL : goal.returns-then-kind-eq-STYL
+pub returns-in-1937013100 : goal.returns-in-1937013100
 unfolding modifier_of
-returns-then-kind-eq-STYL c = rw (eq-eqb _ _ c.if-kind-eq-STYL.true, c.get16.ensures.0)
+returns-in-1937013100 c = rw (c.in-1937013100.is, c.get16.ensures.0)
 
 pub get32-requires : goal.get32-requires
-get32-requires c =
-    let sung : c.args.body + 6 ≤ length c.args.s.now = omega (arith, karaoke-past c.args.s.now c.args.body, end-krok c.args.s.now c.args.kind c.args.body c.if-kind-eq-KROK.true, c.requires) in
-    let w = sung in omega arith
+get32-requires c = omega (arith, karaoke-past c.args.s.now c.args.body, end-krok c.args.s.now c.args.kind c.args.body c.in-1802661739.is)
 
 pub overflow_add-body : goal.overflow_add-body
-overflow_add-body c =
-    let sung : c.args.body + 6 ≤ length c.args.s.now = omega (arith, karaoke-past c.args.s.now c.args.body, end-krok c.args.s.now c.args.kind c.args.body c.if-kind-eq-KROK.true, c.requires) in
-    let w = sung in omega arith
+overflow_add-body c = omega (arith, karaoke-past c.args.s.now c.args.body, end-krok c.args.s.now c.args.kind c.args.body c.in-1802661739.is)
 
-pub get16-requires-then-kind-eq-KROK : goal.get16-requires-then-kind-eq-KROK
-get16-requires-then-kind-eq-KROK c =
-    let sung : c.args.body + 6 ≤ length c.args.s.now = omega (arith, karaoke-past c.args.s.now c.args.body, end-krok c.args.s.now c.args.kind c.args.body c.if-kind-eq-KROK.true, c.requires) in
-    let w = sung in omega arith
+pub get16-requires-in-1802661739 : goal.get16-requires-in-1802661739
+get16-requires-in-1802661739 c = omega (arith, karaoke-past c.args.s.now c.args.body, end-krok c.args.s.now c.args.kind c.args.body c.in-1802661739.is)
 
-pub overflow_add-result-then-kind-eq-KROK : goal.overflow_add-result-then-kind-eq-KROK
-overflow_add-result-then-kind-eq-KROK c =
-    let sung : c.args.body + 6 ≤ length c.args.s.now = omega (arith, karaoke-past c.args.s.now c.args.body, end-krok c.args.s.now c.args.kind c.args.body c.if-kind-eq-KROK.true, c.requires) in
-    let w = sung in omega arith
+pub overflow_add-result-in-1802661739 : goal.overflow_add-result-in-1802661739
+overflow_add-result-in-1802661739 c = omega (arith, karaoke-past c.args.s.now c.args.body, end-krok c.args.s.now c.args.kind c.args.body c.in-1802661739.is)
 
-pub returns-then-kind-eq-KROK : goal.returns-then-kind-eq-KROK
+pub returns-in-1802661739 : goal.returns-in-1802661739
 unfolding modifier_of
-returns-then-kind-eq-KROK c = rw (ne_eqb _ _ c.if-kind-eq-STYL.false, eq-eqb _ _ c.if-kind-eq-KROK.true, c.get32.ensures.0, c.get16-then-kind-eq-KROK.ensures.0)
+returns-in-1802661739 c = rw (c.in-1802661739.is, c.get32.ensures.0, c.get16-in-1802661739.ensures.0)
 
 pub read_link-requires : goal.read_link-requires
-read_link-requires c = rw (← end-href c.args.s.now _ _ c.if-kind-eq-HREF.true) c.requires
+read_link-requires c = rw (← end-href c.args.s.now _ _ c.in-1752327526.is) c.requires
 
-pub returns-then-kind-eq-HREF : goal.returns-then-kind-eq-HREF
+pub returns-in-1752327526 : goal.returns-in-1752327526
 unfolding modifier_of
-returns-then-kind-eq-HREF c = rw (ne_eqb _ _ c.if-kind-eq-STYL.false, ne_eqb _ _ c.if-kind-eq-KROK.false, eq-eqb _ _ c.if-kind-eq-HREF.true) c.read_link.ensures
+returns-in-1752327526 c = rw c.in-1752327526.is c.read_link.ensures
 
-pub returns-then-kind-eq-TBOX : goal.returns-then-kind-eq-TBOX
+pub returns-in-1952608120 : goal.returns-in-1952608120
 unfolding modifier_of
-returns-then-kind-eq-TBOX c = rw (ne_eqb _ _ c.if-kind-eq-STYL.false, ne_eqb _ _ c.if-kind-eq-KROK.false, ne_eqb _ _ c.if-kind-eq-HREF.false, eq-eqb _ _ c.if-kind-eq-TBOX.true)
+returns-in-1952608120 c = rw c.in-1952608120.is
 
 pub get8-requires : goal.get8-requires
-get8-requires c = omega (arith, end-twrp c.args.s.now c.args.kind c.args.body c.if-kind-eq-TWRP.true)
+get8-requires c = omega (arith, end-twrp c.args.s.now c.args.kind c.args.body c.in-1953985136.is)
 
-pub returns-then-kind-eq-TWRP : goal.returns-then-kind-eq-TWRP
+pub returns-in-1953985136 : goal.returns-in-1953985136
 unfolding modifier_of
-returns-then-kind-eq-TWRP c = rw (ne_eqb _ _ c.if-kind-eq-STYL.false, ne_eqb _ _ c.if-kind-eq-KROK.false, ne_eqb _ _ c.if-kind-eq-HREF.false, ne_eqb _ _ c.if-kind-eq-TBOX.false, eq-eqb _ _ c.if-kind-eq-TWRP.true, c.get8.ensures.0)
+returns-in-1953985136 c = rw (c.in-1953985136.is, c.get8.ensures.0)
 
 pub read_plain-requires : goal.read_plain-requires
-read_plain-requires c = omega (arith, end-other c.args.s.now c.args.kind c.args.body c.if-kind-eq-STYL.false c.if-kind-eq-TWRP.false)
+read_plain-requires c = omega (arith, end-other c.args.s.now c.args.kind c.args.body (λ e. omega arith) (λ e. omega arith))
 
-pub returns : goal.returns
+pub returns-in_default : goal.returns-in_default
 unfolding modifier_of
-returns c = rw (ne_eqb _ _ c.if-kind-eq-STYL.false, ne_eqb _ _ c.if-kind-eq-KROK.false, ne_eqb _ _ c.if-kind-eq-HREF.false, ne_eqb _ _ c.if-kind-eq-TBOX.false, ne_eqb _ _ c.if-kind-eq-TWRP.false) c.read_plain.ensures
+returns-in_default c = rw (ne_eqb c.args.kind styl (λ e. omega arith), ne_eqb c.args.kind krok (λ e. omega arith), ne_eqb c.args.kind href (λ e. omega arith), ne_eqb c.args.kind tbox (λ e. omega arith), ne_eqb c.args.kind twrp (λ e. omega arith)) c.read_plain.ensures

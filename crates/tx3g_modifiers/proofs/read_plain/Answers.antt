@@ -1,16 +1,18 @@
 -- `tx3g_modifiers::read_plain` meets its contract.
 use Rattle.tx3g_modifiers.specs.Modifiers.{plain_of}
-use borrow.Author.Tests.{eq-eqb, ne_eqb}
+use Rattle.tx3g_contents.specs.Kinds.{hlit, hclr}
+use borrow.Author.Tests.{ne_eqb}
+use native.Mathlib.Omega.{arith}
 use Rattle.tx3g_modifiers.proofs.read_plain.Goals as goal
 
-pub returns-then-kind-eq-HLIT : goal.returns-then-kind-eq-HLIT
+pub returns-in-1751935348 : goal.returns-in-1751935348
 unfolding plain_of
-returns-then-kind-eq-HLIT c = rw (eq-eqb _ _ c.if-kind-eq-HLIT.true, c.get16.ensures.0, c.get16-then-kind-eq-HLIT.ensures.0)
+returns-in-1751935348 c = rw (c.in-1751935348.is, c.get16.ensures.0, c.get16-in-1751935348.ensures.0)
 
-pub returns-then-kind-eq-HCLR : goal.returns-then-kind-eq-HCLR
+pub returns-in-1751346290 : goal.returns-in-1751346290
 unfolding plain_of
-returns-then-kind-eq-HCLR c = rw (ne_eqb _ _ c.if-kind-eq-HLIT.false, eq-eqb _ _ c.if-kind-eq-HCLR.true, c.get8.ensures.0, c.get8-then-kind-eq-HCLR.ensures.0, c.get8-then-kind-eq-HCLR-2.ensures.0, c.get8-then-kind-eq-HCLR-3.ensures.0)
+returns-in-1751346290 c = rw (c.in-1751346290.is, c.get8.ensures.0, c.get8-in-1751346290.ensures.0, c.get8-in-1751346290-2.ensures.0, c.get8-in-1751346290-3.ensures.0)
 
-pub returns : goal.returns
+pub returns-in_default : goal.returns-in_default
 unfolding plain_of
-returns c = rw (ne_eqb _ _ c.if-kind-eq-HLIT.false, ne_eqb _ _ c.if-kind-eq-HCLR.false, c.get32.ensures.0)
+returns-in_default c = rw (ne_eqb c.args.kind hlit (λ e. omega arith), ne_eqb c.args.kind hclr (λ e. omega arith), c.get32.ensures.0)

@@ -11,5 +11,5 @@ returns-then-utf16 c = character-by _ _ _ _ _ _ c.if-utf16.true c.utf16_at.ensur
 pub utf8_at-requires : goal.utf8_at-requires
 utf8_at-requires c = (c.requires.0, spelled_by _ _ _ c.if-utf16.false c.requires.1)
 
-pub returns : goal.returns
-returns c = character-by _ _ _ _ _ _ c.if-utf16.false c.utf8_at.ensures
+pub returns-else-utf16 : goal.returns-else-utf16
+returns-else-utf16 c = character-by _ _ _ _ _ _ c.if-utf16.false c.utf8_at.ensures

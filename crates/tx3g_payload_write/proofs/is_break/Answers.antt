@@ -1,12 +1,13 @@
--- The two tests, one by one.
-use borrow.Author.Tests.{eq-eqb, ne_eqb}
+-- The two characters, and another.
+use Rattle.std.proofs.lemmas.Bool.Decides.{nat_tests}
+use native.Mathlib.Omega.{arith}
 use Rattle.tx3g_payload.specs.Left.{is_break}
 use Rattle.tx3g_payload_write.proofs.is_break.Goals as goal
 
-pub returns-then-c-eq13 : goal.returns-then-c-eq13
+pub returns-in-13 : goal.returns-in-13
 unfolding is_break
-returns-then-c-eq13 c = rw (eq-eqb _ _ c.if-c-eq13.true)
+returns-in-13 c = grind (arith, nat_tests)
 
-pub returns : goal.returns
+pub returns-in_default : goal.returns-in_default
 unfolding is_break
-returns c = rw (ne_eqb _ _ c.if-c-eq13.false)
+returns-in_default c = grind (arith, nat_tests)

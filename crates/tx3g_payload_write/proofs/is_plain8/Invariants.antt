@@ -1,5 +1,4 @@
 -- The invariant: x is 0 exactly if each of the first k bytes is plain.
-use Prim.Native.Nat.{◌-◌, ◌≤◌}
 use mathlib.Core.Path.{◌≡◌}
 use lib.Dec.{eqb}
 use Rattle.ascii.specs.Ascii.{all}
@@ -7,7 +6,4 @@ use Rattle.tx3g_payload_write.specs.Terms.{plain}
 use Rattle.tx3g_payload_write.proofs.is_plain8.Given as goal
 
 abbrev pub invariant-loop-k : goal.invariant-loop-k
-invariant-loop-k l = (l.k ≤ 8) × (eqb l.x 0 ≡ all plain l.text l.at l.k)
-
-abbrev pub decreases-loop-k : goal.decreases-loop-k
-decreases-loop-k l = 8 - l.k
+invariant-loop-k l = eqb l.x 0 ≡ all plain l.text l.at l.k

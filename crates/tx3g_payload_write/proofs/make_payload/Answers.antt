@@ -30,8 +30,8 @@ slice_bounds-count_characters-start c = let w = text-fine _ (text-of-fine _ _ c.
 pub slice_bounds-count_characters-end : goal.slice_bounds-count_characters-end
 slice_bounds-count_characters-end c = let w = text-fine _ (text-of-fine _ _ c.requires.1) in let x = text-ends _ _ c.find_text-t.ensures in omega (arith, w, x, count_past c.args.s.now)
 
-pub put_stretches-requires-in-Characters : goal.put_stretches-requires-in-Characters
-put_stretches-requires-in-Characters c = (sample-good _ _ _ _ c.requires.0 c.requires.1 (text-ends _ _ c.find_text-t.ensures) (sym c.count_characters.ensures ∙ c.in-Characters.is), c.requires.2)
+pub put_stretches-requires-in-Ok : goal.put_stretches-requires-in-Ok
+put_stretches-requires-in-Ok c = (sample-good _ _ _ _ c.requires.0 c.requires.1 (text-ends _ _ c.find_text-t.ensures) (sym c.count_characters.ensures ∙ c.in-Ok.is), c.requires.2)
 
-pub returns-in-Bad : goal.returns-in-Bad
-returns-in-Bad c = sample-counted _ _ _ _ c.requires.1 (text-ends _ _ c.find_text-t.ensures) (sym c.count_characters.ensures ∙ c.in-Bad.is)
+pub returns-in-Err : goal.returns-in-Err
+returns-in-Err c = sample-counted _ _ _ _ c.requires.1 (text-ends _ _ c.find_text-t.ensures) (sym c.count_characters.ensures ∙ c.in-Err.is)

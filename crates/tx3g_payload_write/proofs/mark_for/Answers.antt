@@ -1,9 +1,9 @@
 -- The byte or another.
-use borrow.Author.Tests.{eq-eqb, ne_eqb}
+use mathlib.Core.Path.{ap, ◌∙◌}
+use Prim.Native.Nat.{ℕ}
+use lib.Dec.{eqb}
+use Rattle.tx3g_payload_write.proofs.Plain.{byte-is}
 use Rattle.tx3g_payload_write.proofs.mark_for.Goals as goal
 
-pub returns-then-b-c : goal.returns-then-b-c
-returns-then-b-c c = rw (eq-eqb _ _ c.if-b-c.true)
-
 pub returns : goal.returns
-returns c = rw (ne_eqb _ _ c.if-b-c.false)
+returns c = ap (λ (x : ℕ). eqb x 0) c.from.ensures ∙ byte-is _

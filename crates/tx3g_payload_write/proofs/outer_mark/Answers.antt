@@ -1,16 +1,13 @@
 -- Test by test.
-use borrow.Author.Tests.{le-leb, lt-leb}
-use Rattle.base.specs.Choice.{within}
+use mathlib.Core.Path.{ap, ◌∙◌}
+use Prim.Native.Nat.{ℕ}
+use lib.Dec.{eqb}
+use Rattle.tx3g_payload_write.proofs.Plain.{byte-is, outer-low, outer-high}
+use Rattle.tx3g_payload_write.proofs.outer_mark.Goals.{then-b-lt32, else-b-lt32}
 use Rattle.tx3g_payload_write.proofs.outer_mark.Goals as goal
 
-pub returns-then-b-lt32 : goal.returns-then-b-lt32
-unfolding within
-returns-then-b-lt32 c = rw (lt-leb _ _ c.if-b-lt32.true)
-
-pub returns-then-b-gt127 : goal.returns-then-b-gt127
-unfolding within
-returns-then-b-gt127 c = rw (le-leb _ _ c.if-b-lt32.false, lt-leb _ _ c.if-b-gt127.true)
-
 pub returns : goal.returns
-unfolding within
-returns c = rw (le-leb _ _ c.if-b-lt32.false, le-leb _ _ c.if-b-gt127.false)
+returns c = ap (λ (x : ℕ). eqb x 0) c.from.ensures ∙ byte-is _ ∙ elim c.if-b-lt32.branch [
+  | then-b-lt32 w ↦ outer-low _ _ w.from-is w.if-b-lt32.true
+  | else-b-lt32 w ↦ outer-high _ _ w.from-is w.if-b-lt32.false
+]

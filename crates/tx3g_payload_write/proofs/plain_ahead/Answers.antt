@@ -7,17 +7,8 @@ use Rattle.tx3g_payload_write.proofs.plain_ahead.Goals as goal
 pub returns-then-utf16 : goal.returns-then-utf16
 returns-then-utf16 c = ahead_none _ _ _ _ c.requires.0
 
-pub returns-then-mark_of-ne0 : goal.returns-then-mark_of-ne0
-returns-then-mark_of-ne0 c = ahead_none _ _ _ _ c.requires.0
-
-pub returns-then-left-lt8 : goal.returns-then-left-lt8
-returns-then-left-lt8 c = ahead-one _ _ _ _ c.mark_of.result c.requires.0 c.requires.1 c.if-utf16.false c.mark_of.ensures (omega arith)
-
-pub returns-then-text-at-lt8 : goal.returns-then-text-at-lt8
-returns-then-text-at-lt8 c = ahead-one _ _ _ _ c.mark_of.result c.requires.0 c.requires.1 c.if-utf16.false c.mark_of.ensures (omega arith)
-
 pub returns-then-is_plain8 : goal.returns-then-is_plain8
 returns-then-is_plain8 c = ahead-eight _ _ _ _ (omega arith) (omega arith) c.if-utf16.false (sym c.is_plain8.ensures ∙ c.if-is_plain8.true)
 
-pub returns : goal.returns
-returns c = ahead-one _ _ _ _ c.mark_of.result c.requires.0 c.requires.1 c.if-utf16.false c.mark_of.ensures (omega arith)
+pub returns-else-left-ge8 : goal.returns-else-left-ge8
+returns-else-left-ge8 c = ahead-one _ _ _ _ c.mark_of.result c.requires.0 c.requires.1 c.if-utf16.false c.mark_of.ensures (omega arith)

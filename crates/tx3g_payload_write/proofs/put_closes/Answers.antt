@@ -10,7 +10,7 @@ use Rattle.tx3g_payload_write.proofs.put_closes.Goals as goal
 pub returns : goal.returns
 unfolding closes
 returns c =
-    let x = wrote_as _ _ _ _ _ _ _ (ap (λ (b : Bool). given b (closing underline)) (sym c.has_flag.ensures)) c.put_end_tag-second.ensures in
-    let y = wrote_as _ _ _ _ _ _ _ (ap (λ (b : Bool). given b (closing italic)) (sym c.has_flag-2.ensures)) c.put_end_tag-third.ensures in
-    let z = wrote_as _ _ _ _ _ _ _ (ap (λ (b : Bool). given b (closing bold)) (sym c.has_flag-3.ensures)) c.put_end_tag.ensures in
+    let x = wrote_as _ _ _ _ _ _ _ (ap (λ (b : Bool). given b (closing underline)) (sym c.has_flag.ensures)) c.put_tag-second.ensures in
+    let y = wrote_as _ _ _ _ _ _ _ (ap (λ (b : Bool). given b (closing italic)) (sym c.has_flag-2.ensures)) c.put_tag-third.ensures in
+    let z = wrote_as _ _ _ _ _ _ _ (ap (λ (b : Bool). given b (closing bold)) (sym c.has_flag-3.ensures)) c.put_tag.ensures in
     wrote-both _ _ _ 4 8 _ _ _ _ _ (omega arith) x (wrote-both _ _ _ 4 4 _ _ _ _ _ (omega arith) y z)

@@ -1,4 +1,3 @@
-use Prim.Native.Nat.{◌-◌}
 use native.Mathlib.Omega.{arith}
 use Rattle.boxes.specs.Boxes.{part}
 use Rattle.tx3g_sample.proofs.Laws.{read-good, text-fine}

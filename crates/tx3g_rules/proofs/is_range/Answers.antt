@@ -7,6 +7,6 @@ pub returns-then-get16-end : goal.returns-then-get16-end
 unfolding in_range
 returns-then-get16-end c = rw (← c.get16-end.ensures.0, ← c.get16.ensures.0, le-leb _ _ c.if-get16-end.true)
 
-pub returns : goal.returns
+pub returns-else-get16-end : goal.returns-else-get16-end
 unfolding in_range
-returns c = rw (← c.get16-end.ensures.0, ← c.get16.ensures.0, lt-leb _ _ c.if-get16-end.false)
+returns-else-get16-end c = rw (← c.get16-end.ensures.0, ← c.get16.ensures.0, lt-leb _ _ c.if-get16-end.false)

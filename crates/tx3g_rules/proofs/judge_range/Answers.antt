@@ -6,6 +6,6 @@ pub returns-then-is_range : goal.returns-then-is_range
 unfolding range_fault
 returns-then-is_range c = rw (← c.is_range.ensures, c.if-is_range.true)
 
-pub returns : goal.returns
+pub returns-else-is_range : goal.returns-else-is_range
 unfolding range_fault
-returns c = rw (← c.is_range.ensures, c.if-is_range.false) c.refused.ensures
+returns-else-is_range c = rw (← c.is_range.ensures, c.if-is_range.false) c.refused.ensures

@@ -6,6 +6,6 @@ pub returns-then-is_ordered : goal.returns-then-is_ordered
 unfolding box_fault
 returns-then-is_ordered c = rw (← c.is_ordered.ensures, c.if-is_ordered.true)
 
-pub returns : goal.returns
+pub returns-else-is_ordered : goal.returns-else-is_ordered
 unfolding box_fault
-returns c = rw (← c.is_ordered.ensures, c.if-is_ordered.false) c.refused.ensures
+returns-else-is_ordered c = rw (← c.is_ordered.ensures, c.if-is_ordered.false) c.refused.ensures

@@ -7,6 +7,6 @@ pub returns-then-get8-gt1 : goal.returns-then-get8-gt1
 unfolding wrap_fault
 returns-then-get8-gt1 c = rw (← c.get8.ensures.0, lt-ltb _ _ c.if-get8-gt1.true) c.refused.ensures
 
-pub returns : goal.returns
+pub returns-else-get8-gt1 : goal.returns-else-get8-gt1
 unfolding wrap_fault
-returns c = rw (← c.get8.ensures.0, le-ltb _ _ c.if-get8-gt1.false)
+returns-else-get8-gt1 c = rw (← c.get8.ensures.0, le-ltb _ _ c.if-get8-gt1.false)

@@ -1,8 +1,12 @@
-use Rattle.tx3g_runs.proofs.Laws.{lasts-here, lasts-not}
+use Rattle.std.proofs.lemmas.Bool.Decides.{nat_tests}
+use native.Mathlib.Omega.{arith}
+use Rattle.tx3g_runs.specs.Runs.{lasts}
 use Rattle.tx3g_runs.proofs.lasts_from.Goals as goal
 
 pub returns-then-k-end : goal.returns-then-k-end
-returns-then-k-end c = lasts-here _ _ _ _ _ c.get16-end.ensures.0 c.get16.ensures.0 c.if-k-end.true
+unfolding lasts
+returns-then-k-end c = rw (← c.get16-end.ensures.0, ← c.get16.ensures.0) (grind (arith, nat_tests))
 
-pub returns : goal.returns
-returns c = lasts-not _ _ _ _ c.get16-end.ensures.0 c.if-k-end.false
+pub returns-else-k-end : goal.returns-else-k-end
+unfolding lasts
+returns-else-k-end c = rw (← c.get16-end.ensures.0) (grind (arith, nat_tests))

@@ -4,8 +4,8 @@ use Rattle.tx3g_runs.proofs.run_by.Goals as goal
 
 pub returns-then-k-start : goal.returns-then-k-start
 unfolding run_by
-returns-then-k-start c = rw (c.least.ensures, ← c.get16-start.ensures.0, lt-ltb _ _ c.if-k-start.true)
+returns-then-k-start c = rw (c.min.ensures, ← c.get16-start.ensures.0, lt-ltb _ _ c.if-k-start.true)
 
-pub returns : goal.returns
+pub returns-else-k-start : goal.returns-else-k-start
 unfolding run_by
-returns c = rw (c.least-2.ensures, c.get16.ensures.0, c.read_style.ensures, ← c.get16-start.ensures.0, le-ltb _ _ c.if-k-start.false)
+returns-else-k-start c = rw (c.min-else-k-start.ensures, c.get16.ensures.0, c.read_style.ensures, ← c.get16-start.ensures.0, le-ltb _ _ c.if-k-start.false)

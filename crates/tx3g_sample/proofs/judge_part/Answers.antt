@@ -10,6 +10,6 @@ pub returns-then-is_known : goal.returns-then-is_known
 unfolding in_sample
 returns-then-is_known c = λ before m. rw (← c.repeats.ensures before m, c.if-repeats.false, ← c.is_known.ensures, c.if-is_known.true) c.judge_body.ensures
 
-pub returns : goal.returns
+pub returns-else-is_known : goal.returns-else-is_known
 unfolding in_sample
-returns c = λ before m. rw (← c.repeats.ensures before m, c.if-repeats.false, ← c.is_known.ensures, c.if-is_known.false)
+returns-else-is_known c = λ before m. rw (← c.repeats.ensures before m, c.if-repeats.false, ← c.is_known.ensures, c.if-is_known.false)

@@ -5,5 +5,5 @@ use Rattle.tx3g_seen.proofs.mark.Goals as goal
 pub returns-then-kind-wanted : goal.returns-then-kind-wanted
 returns-then-kind-wanted c = simp (eq-eqb _ _ c.if-kind-wanted.true)
 
-pub returns : goal.returns
-returns c = simp (ne_eqb _ _ c.if-kind-wanted.false)
+pub returns-else-kind-wanted : goal.returns-else-kind-wanted
+returns-else-kind-wanted c = simp (ne_eqb _ _ c.if-kind-wanted.false)

@@ -1,32 +1,33 @@
 -- `tx3g_seen::repeats` meets its contract.
-use Rattle.tx3g_contents.specs.Kinds.{single}
+use Rattle.tx3g_contents.specs.Kinds.{single, styl, hclr, krok, dlay, tbox, twrp}
 use borrow.Author.Tests.{ne_eqb}
+use native.Mathlib.Omega.{arith}
 use Rattle.tx3g_seen.proofs.repeats.Goals as goal
 
-pub returns-then-kind-eq-STYL : goal.returns-then-kind-eq-STYL
+pub returns-in-1937013100 : goal.returns-in-1937013100
 unfolding single
-returns-then-kind-eq-STYL c = λ before m. rw c.if-kind-eq-STYL.true m.of_styles
+returns-in-1937013100 c = λ before m. rw c.in-1937013100.is m.of_styles
 
-pub returns-then-kind-eq-HCLR : goal.returns-then-kind-eq-HCLR
+pub returns-in-1751346290 : goal.returns-in-1751346290
 unfolding single
-returns-then-kind-eq-HCLR c = λ before m. rw c.if-kind-eq-HCLR.true m.of_colour
+returns-in-1751346290 c = λ before m. rw c.in-1751346290.is m.of_colour
 
-pub returns-then-kind-eq-KROK : goal.returns-then-kind-eq-KROK
+pub returns-in-1802661739 : goal.returns-in-1802661739
 unfolding single
-returns-then-kind-eq-KROK c = λ before m. rw c.if-kind-eq-KROK.true m.of_karaoke
+returns-in-1802661739 c = λ before m. rw c.in-1802661739.is m.of_karaoke
 
-pub returns-then-kind-eq-DLAY : goal.returns-then-kind-eq-DLAY
+pub returns-in-1684824441 : goal.returns-in-1684824441
 unfolding single
-returns-then-kind-eq-DLAY c = λ before m. rw c.if-kind-eq-DLAY.true m.of_delay
+returns-in-1684824441 c = λ before m. rw c.in-1684824441.is m.of_delay
 
-pub returns-then-kind-eq-TBOX : goal.returns-then-kind-eq-TBOX
+pub returns-in-1952608120 : goal.returns-in-1952608120
 unfolding single
-returns-then-kind-eq-TBOX c = λ before m. rw c.if-kind-eq-TBOX.true m.of_box
+returns-in-1952608120 c = λ before m. rw c.in-1952608120.is m.of_box
 
-pub returns-then-kind-eq-TWRP : goal.returns-then-kind-eq-TWRP
+pub returns-in-1953985136 : goal.returns-in-1953985136
 unfolding single
-returns-then-kind-eq-TWRP c = λ before m. rw c.if-kind-eq-TWRP.true m.of_wrap
+returns-in-1953985136 c = λ before m. rw c.in-1953985136.is m.of_wrap
 
-pub returns : goal.returns
+pub returns-in_default : goal.returns-in_default
 unfolding single
-returns c = λ before m. rw (ne_eqb _ _ c.if-kind-eq-STYL.false, ne_eqb _ _ c.if-kind-eq-HCLR.false, ne_eqb _ _ c.if-kind-eq-KROK.false, ne_eqb _ _ c.if-kind-eq-DLAY.false, ne_eqb _ _ c.if-kind-eq-TBOX.false, ne_eqb _ _ c.if-kind-eq-TWRP.false)
+returns-in_default c = λ before m. rw (ne_eqb c.args.kind styl (λ e. omega arith), ne_eqb c.args.kind hclr (λ e. omega arith), ne_eqb c.args.kind krok (λ e. omega arith), ne_eqb c.args.kind dlay (λ e. omega arith), ne_eqb c.args.kind tbox (λ e. omega arith), ne_eqb c.args.kind twrp (λ e. omega arith))

@@ -1,10 +1,14 @@
 -- By the test.
-use native.Mathlib.Omega.{arith}
-use borrow.Author.Tests.{eq-eqb, ne_eqb}
+use Prim.Native.Nat.{ℕ, ◌+◌}
+use mathlib.Core.Bool.{Bool, true, false}
+use mathlib.Core.Path.{◌≡◌, refl, ap, ◌∙◌}
+use mir.Val.{bool_byte}
+use Rattle.base.specs.Choice.{pick}
 use Rattle.tx3g_stock.proofs.count_kind.Goals as goal
 
-pub returns-then-kind-wanted : goal.returns-then-kind-wanted
-returns-then-kind-wanted c = rw (eq-eqb _ _ c.if-kind-wanted.true)
+one-if : (b : Bool) → bool_byte b ≡ pick b 1 0
+one-if true = refl
+one-if false = refl
 
 pub returns : goal.returns
-returns c = rw (ne_eqb _ _ c.if-kind-wanted.false) (omega arith)
+returns c = ap (λ (x : ℕ). c.args.n + x) (c.from.ensures ∙ one-if _)

@@ -1,12 +1,8 @@
 -- Sample by sample: the boxes of those before row i are counted.
-use Prim.Native.Nat.{◌-◌, ◌≤◌}
 use mathlib.Core.Path.{◌≡◌}
 use Rattle.table.specs.Table.{offset_of}
 use Rattle.tx3g_stock.specs.Stock.{counts_to}
 use Rattle.tx3g_stock.proofs.count_stock.Given as goal
 
 abbrev pub invariant-loop-i : goal.invariant-loop-i
-invariant-loop-i l = (l.i ≤ l.count) × (l.at ≡ offset_of l.table l.i) × (l.counts ≡ counts_to l.table l.samples l.i)
-
-abbrev pub decreases-loop-i : goal.decreases-loop-i
-decreases-loop-i l = l.count - l.i
+invariant-loop-i l = (l.at ≡ offset_of l.table l.i) × (l.counts ≡ counts_to l.table l.samples l.i)

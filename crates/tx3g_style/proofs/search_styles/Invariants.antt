@@ -1,10 +1,6 @@
 -- `tx3g_style::search_styles` meets its contract. The invariant: no style before the i-th holds the character.
 use Rattle.tx3g_style.proofs.Laws.{NoneBefore}
-use Prim.Native.Nat.{◌-◌, ◌≤◌}
 use Rattle.tx3g_style.proofs.search_styles.Given as goal
 
 abbrev pub invariant-loop-i : goal.invariant-loop-i
-invariant-loop-i l = (l.i ≤ l.count) × NoneBefore l.s l.body l.k l.i
-
-abbrev pub decreases-loop-i : goal.decreases-loop-i
-decreases-loop-i l = l.count - l.i
+invariant-loop-i l = NoneBefore l.s l.body l.k l.i

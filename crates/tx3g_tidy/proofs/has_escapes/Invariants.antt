@@ -1,11 +1,6 @@
--- The invariant: x is 0 exactly if none of the bytes before i is escaped.
-use Prim.Native.Nat.{◌-◌, ◌≤◌}
-use lib.ListN.{length}
+-- The invariant: x is 0 exactly if none of the bytes before b is escaped.
 use Rattle.tx3g_tidy.proofs.Escapes.{PlainFirst}
 use Rattle.tx3g_tidy.proofs.has_escapes.Given as goal
 
-abbrev pub invariant-loop-i : goal.invariant-loop-i
-invariant-loop-i l = (l.i ≤ length l.text) × PlainFirst l.text l.i l.x
-
-abbrev pub decreases-loop-i : goal.decreases-loop-i
-decreases-loop-i l = length l.text - l.i
+abbrev pub invariant-loop-b : goal.invariant-loop-b
+invariant-loop-b l = PlainFirst l.text l.b-index l.x

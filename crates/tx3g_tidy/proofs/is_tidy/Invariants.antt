@@ -1,11 +1,6 @@
 -- The invariant: x is 0 exactly if the first byte is no LF, and each of those before i stays.
-use Prim.Native.Nat.{◌-◌, ◌≤◌}
-use lib.ListN.{length}
 use Rattle.tx3g_tidy.proofs.Marks.{StaysTo}
 use Rattle.tx3g_tidy.proofs.is_tidy.Given as goal
 
 abbrev pub invariant-loop-i : goal.invariant-loop-i
-invariant-loop-i l = (l.i ≤ length l.text - 1) × StaysTo l.text l.i l.x
-
-abbrev pub decreases-loop-i : goal.decreases-loop-i
-decreases-loop-i l = length l.text - 1 - l.i
+invariant-loop-i l = StaysTo l.text l.i l.x

@@ -1,8 +1,6 @@
-use borrow.Author.Tests.{eq-eqb, ne_eqb}
+use mathlib.Core.Path.{◌∙◌}
+use Rattle.tx3g_tidy.proofs.Marks.{one-if}
 use Rattle.tx3g_tidy.proofs.mark_for.Goals as goal
 
-pub returns-then-b-c : goal.returns-then-b-c
-returns-then-b-c c = simp (eq-eqb _ _ c.if-b-c.true)
-
 pub returns : goal.returns
-returns c = simp (ne_eqb _ _ c.if-b-c.false)
+returns c = c.from.ensures ∙ one-if _

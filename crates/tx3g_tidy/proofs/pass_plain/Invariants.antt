@@ -1,12 +1,9 @@
--- The invariant: none of the bytes from `from` to i is escaped.
-use Prim.Native.Nat.{◌-◌, ◌≤◌}
+-- The invariant: none of the bytes of the first k eights is escaped.
+use Prim.Native.Nat.{◌+◌, ◌*◌}
 use mathlib.Core.Path.{◌≡◌}
 use Rattle.boxes.specs.Boxes.{part}
 use Rattle.tx3g_tidy.specs.Escapes.{extras}
 use Rattle.tx3g_tidy.proofs.pass_plain.Given as goal
 
-abbrev pub invariant-loop-i : goal.invariant-loop-i
-invariant-loop-i l = (l.from ≤ l.i) × (l.i ≤ l.end) × (extras (part l.text l.from l.i) ≡ 0)
-
-abbrev pub decreases-loop-i : goal.decreases-loop-i
-decreases-loop-i l = l.end - l.i
+abbrev pub invariant-loop-k : goal.invariant-loop-k
+invariant-loop-k l = extras (part l.text l.from (l.from + l.k * 8)) ≡ 0

@@ -1,4 +1,4 @@
-use Prim.Native.Nat.{◌-◌, ◌<◌}
+use Prim.Native.Nat.{◌<◌}
 use native.Mathlib.Omega.{arith}
 use Rattle.tx3g_tidy.proofs.Escapes.{shows, shown-kept, shown-all, run_room, shown-run, shown-byte}
 use Rattle.tx3g_tidy.proofs.put_shown.Goals as goal

@@ -1,29 +1,20 @@
-use mathlib.Core.Path.{ap, sym, ◌∙◌, subst}
+use mathlib.Core.Path.{ap, sym, ◌∙◌, subst⁻¹}
+use Rattle.base.proofs.Results.{passed_on}
+use Rattle.unpack.specs.Rows.{ReadAs}
 use native.Mathlib.Omega.{arith}
-use Rattle.gather.specs.Gathering.{unpacked_of, Complete}
-use Rattle.unpack.specs.declared.Unpacked.TheVariants.{Refused}
-use Rattle.unpack.proofs.Laws.{scale-refused, track-refused, list-stopped, read-refused, rows_are}
+use Rattle.unpack.specs.Unpacked.{Refused}
+use Rattle.unpack.proofs.Laws.{scale-refused, track-refused, read-done}
 use Rattle.unpack.proofs.read_track.Goals as goal
 
 pub returns-then-not-scale_allowed : goal.returns-then-not-scale_allowed
 returns-then-not-scale_allowed c = ap Refused c.fault_at.ensures ∙ scale-refused _ _ _ (sym c.scale_allowed.ensures ∙ c.if-not-scale_allowed.true)
 
-pub returns-in_default : goal.returns-in_default
-returns-in_default c = read-refused _ _ _ _ _ _ _ c.refused_by.ensures c.in_default.is
-    (track-refused _ _ _ (sym c.scale_allowed.ensures ∙ c.if-not-scale_allowed.false) _ (sym c.judge_track-v.ensures ∙ c.in_default.is))
+pub returns-in_err-judge_track : goal.returns-in_err-judge_track
+returns-in_err-judge_track c = subst⁻¹ (ReadAs _ _ _ _) (passed_on _ _ c.from_residual.ensures)
+    (track-refused _ _ _ (sym c.scale_allowed.ensures ∙ c.if-not-scale_allowed.false) _ (sym c.judge_track.ensures ∙ c.in_err-judge_track.was))
 
 pub gather-requires : goal.gather-requires
-gather-requires c = (sym c.judge_track-v.ensures ∙ c.in-Fine.is, c.requires)
+gather-requires c = (sym c.judge_track.ensures ∙ c.in_ok-judge_track.was, c.requires)
 
-pub returns-in-All : goal.returns-in-All
-returns-in-All c = let a = c.args in
-    let ok = sym c.scale_allowed.ensures ∙ c.if-not-scale_allowed.false in
-    let fine = sym c.judge_track-v.ensures ∙ c.in-Fine.is in
-    let w = subst (Complete a.table.now a.samples.now c.gather.new.tab) c.in-All.is c.gather.ensures.1 in
-    rows_are _ _ _ ok fine _ _ _ (omega (arith, w.0, c.gather.auto.tab, c.requires)) w.0 w.1 w.2 w.3
-    (sym (ap (unpacked_of _ _) c.in-All.is) ∙ c.gather.ensures.0)
-
-pub returns-in-Fault : goal.returns-in-Fault
-returns-in-Fault c = let ok = sym c.scale_allowed.ensures ∙ c.if-not-scale_allowed.false in
-    let fine = sym c.judge_track-v.ensures ∙ c.in-Fine.is in
-    ap Refused c.fault_at-in-Fault.ensures ∙ list-stopped _ _ _ ok fine _ _ (sym (ap (unpacked_of _ _) c.in-Fault.is) ∙ c.gather.ensures.0)
+pub returns : goal.returns
+returns c = read-done _ _ _ (sym c.scale_allowed.ensures ∙ c.if-not-scale_allowed.false) (sym c.judge_track.ensures ∙ c.in_ok-judge_track.was) _ _ (omega (arith, c.gather.auto.tab, c.requires)) c.gather.ensures.0 c.gather.ensures.1

@@ -1,3 +1,4 @@
+use Rattle.base.proofs.Results.{passed_on}
 use mathlib.Core.List.{List}
 use mathlib.Core.Path.{◌∙◌, ap, refl, subst}
 use Rattle.timeline.specs.Cues.{Cue}
@@ -8,11 +9,11 @@ use Rattle.unpack.proofs.Laws.{rows-answer}
 use Rattle.unpack.proofs.unpack.Goals as goal
 
 pub write_list-requires : goal.write_list-requires
-write_list-requires c = (subst (ReadAs _ _ _ _) c.in-Rows.is c.read_track-list.ensures).rows_ready
+write_list-requires c = (subst (ReadAs _ _ _ _) c.in_ok-count.was c.read_track.ensures).rows_ready
 
-pub returns-in-Rows : goal.returns-in-Rows
-returns-in-Rows c = let a = c.args in
-    let w = subst (ReadAs _ _ _ _) c.in-Rows.is c.read_track-list.ensures in
+pub returns : goal.returns
+returns c = let a = c.args in
+    let w = subst (ReadAs _ _ _ _) c.in_ok-count.was c.read_track.ensures in
     let z = c.write_list.ensures in
     let r = c.write_list.result in (
       z.0 ∙ rows-answer _ _ _ _ _ _ w _ _,
@@ -20,6 +21,6 @@ returns-in-Rows c = let a = c.args in
       z.2 ∙ ap (λ (x : List Cue). out_of r (pool_of x) a.pool.now) w.cues,
     )
 
-pub returns-in-Stopped : goal.returns-in-Stopped
+pub returns-in_err-count : goal.returns-in_err-count
 unfolding unpack_of
-returns-in-Stopped c = (ap (roomed _ _) (subst (ReadAs _ _ _ _) c.in-Stopped.is c.read_track-list.ensures), refl, refl)
+returns-in_err-count c = rw (passed_on _ _ c.from_residual.ensures) (ap (roomed _ _) (subst (ReadAs _ _ _ _) c.in_err-count.was c.read_track.ensures), refl, refl)

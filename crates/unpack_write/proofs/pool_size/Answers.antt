@@ -1,4 +1,4 @@
-use Prim.Native.Nat.{ℕ, ◌+◌, ◌-◌}
+use Prim.Native.Nat.{ℕ, ◌+◌}
 use native.Mathlib.Nat.{le_antisymm}
 use mathlib.Core.Path.{refl, sym, ap, ◌∙◌, subst}
 use Rattle.unpack_write.specs.Rows.{Short, row_size, size_to}
@@ -11,10 +11,10 @@ unfolding size_to
 loop-i-init c = (omega arith, refl, omega arith)
 
 pub row_size-size-requires : goal.row_size-size-requires
-row_size-size-requires c = subst Short (sym c.row_at-row.ensures) (c.requires.2 c.loop-i.i c.loop-i-test.true)
+row_size-size-requires c = subst Short (sym c.row_at.ensures) (c.requires.2 c.loop-i.i (omega arith))
 
 pub loop-i-preserved : goal.loop-i-preserved
-loop-i-preserved c = (omega arith, ap (λ (x : ℕ). x + c.row_size-size.result) c.loop-i.invariant.1 ∙ size-more _ _ _ (c.row_size-size.ensures.0 ∙ ap row_size c.row_at-row.ensures), omega arith)
+loop-i-preserved c = (omega arith, ap (λ (x : ℕ). x + c.row_size-size.result) c.loop-i.invariant.1 ∙ size-more _ _ _ (c.row_size-size.ensures.0 ∙ ap row_size c.row_at.ensures), omega arith)
 
 pub returns : goal.returns
-returns c = (c.loop-i.invariant.1 ∙ ap (size_to c.args.tab.now) (le_antisymm c.loop-i.invariant.0 c.loop-i-test.false), omega arith)
+returns c = (c.loop-i.invariant.1 ∙ ap (size_to c.args.tab.now) (le_antisymm c.loop-i.invariant.0 (omega arith)), omega arith)

@@ -1,4 +1,4 @@
-use Prim.Native.Nat.{ℕ, ◌+◌, ◌-◌}
+use Prim.Native.Nat.{ℕ, ◌+◌, ◌<◌}
 use native.Mathlib.Nat.{le_antisymm}
 use mathlib.Core.Path.{◌≡◌, refl, sym, ap, ◌∙◌, subst}
 use lib.ListN.{length}
@@ -19,7 +19,7 @@ loop-i-init c = (omega arith, refl, over-nil _, over-nil _, refl, refl)
 
 pub write_row-at-requires : goal.write_row-at-requires
 write_row-at-requires c = let l = c.loop-i in let p = c.requires in let a = c.args in
-    let h = c.loop-i-test.true in
+    let h : l.i < a.n = omega arith in
     let row = c.row_at-row.ensures in (
       p.0,
       subst (Ready (length a.samples.now)) (sym row) (p.3 l.i h),
@@ -34,7 +34,7 @@ loop-i-preserved c = let l = c.loop-i in let p = c.requires in let a = c.args in
     let row = c.row_at-row.ensures in
     let put = c.write_row-at.ensures in
     let cs = known a.samples.now a.tab.now a.n in
-    let e = known_at a.samples.now a.tab.now a.n l.i c.loop-i-test.true ∙ ap (cue_at a.samples.now) (sym row) in
+    let e = known_at a.samples.now a.tab.now a.n l.i (omega arith) ∙ ap (cue_at a.samples.now) (sym row) in
     let o : l.at ≡ length (pool_to cs l.i) = l.invariant.1 ∙ sym (length-pool a.samples.now a.tab.now a.n (λ j q. (p.3 j q).placed) l.i l.invariant.0) in (
       omega arith,
       put.0 ∙ ap (λ (x : ℕ). x + row_size c.row_at-row.result) l.invariant.1 ∙ size-more a.tab.now l.i _ (ap row_size row),
@@ -46,6 +46,6 @@ loop-i-preserved c = let l = c.loop-i in let p = c.requires in let a = c.args in
 
 pub returns : goal.returns
 returns c = let l = c.loop-i in let a = c.args in
-    let e = le_antisymm l.invariant.0 c.loop-i-test.false in
+    let e = le_antisymm l.invariant.0 (omega arith) in
     let cs = known a.samples.now a.tab.now a.n in
     (l.invariant.2 ∙ ap (λ (k : ℕ). over (records_to a.scale cs k) a.records.now) e, l.invariant.3 ∙ ap (λ (k : ℕ). over (pool_to cs k) a.pool.now) e)

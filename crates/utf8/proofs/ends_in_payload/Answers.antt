@@ -1,4 +1,5 @@
 use mathlib.Core.Path.{◌∙◌}
+use native.Mathlib.Omega.{arith}
 use Rattle.base.proofs.Tests.{both_yes, one-of-no}
 use Rattle.utf8.specs.Strings.{starts_with_any}
 use Rattle.utf8.specs.Forbidden.{not_in_payload}
@@ -6,16 +7,16 @@ use Rattle.utf8.specs.Machine.{ends_forbidden}
 use Rattle.utf8.proofs.Windows.{other-in-payload, return-in-payload}
 use Rattle.utf8.proofs.ends_in_payload.Goals as goal
 
-pub returns-then-b-eq62 : goal.returns-then-b-eq62
+pub returns-in-62 : goal.returns-in-62
 unfolding ends_forbidden not_in_payload starts_with_any
-returns-then-b-eq62 c = rw c.if-b-eq62.true (simp (both_yes, one-of-no) c.is_dashes.ensures)
+returns-in-62 c = rw c.in-62.is (simp (both_yes, one-of-no) c.is_dashes.ensures)
 
-pub returns-then-b-eq10 : goal.returns-then-b-eq10
+pub returns-in-10 : goal.returns-in-10
 unfolding ends_forbidden not_in_payload starts_with_any
-returns-then-b-eq10 c = rw c.if-b-eq10.true (simp (both_yes, one-of-no))
+returns-in-10 c = rw c.in-10.is (simp (both_yes, one-of-no))
 
-pub returns-then-b-eq13 : goal.returns-then-b-eq13
-returns-then-b-eq13 c = rw c.if-b-eq13.true (c.is_line_end.ensures ∙ return-in-payload c.args.p c.args.q)
+pub returns-in-13 : goal.returns-in-13
+returns-in-13 c = rw c.in-13.is (c.is_line_end.ensures ∙ return-in-payload c.args.p c.args.q)
 
-pub returns : goal.returns
-returns c = other-in-payload _ _ _ c.if-b-eq62.false c.if-b-eq10.false c.if-b-eq13.false
+pub returns-in_default : goal.returns-in_default
+returns-in_default c = other-in-payload _ _ _ (λ z. omega (arith, z)) (λ z. omega (arith, z)) (λ z. omega (arith, z))

@@ -7,13 +7,13 @@ use Rattle.vtt_blocks.proofs.Parts.{settings_end, timed-at}
 use Rattle.vtt_blocks.proofs.find_cue.Goals as goal
 
 pub overflow_add-result : goal.overflow_add-result
-overflow_add-result c = record { fits = omega (arith, settings_end c.args.s.now c.args.from c.args.end _ _ _ _ (omega arith) (omega arith) (subst (ReadAs (text_in c.args.s.now c.args.from c.args.end)) c.in-Times.is c.read_timing.ensures)) }
+overflow_add-result c = record { fits = omega (arith, settings_end c.args.s.now c.args.from c.args.end _ _ _ _ (omega arith) (omega arith) (subst (ReadAs (text_in c.args.s.now c.args.from c.args.end)) c.in-Some.is c.read_timing.ensures)) }
 
-pub overflow_add-result-in-Times : goal.overflow_add-result-in-Times
-overflow_add-result-in-Times c = record { fits = omega (arith, settings_end c.args.s.now c.args.from c.args.end _ _ _ _ (omega arith) (omega arith) (subst (ReadAs (text_in c.args.s.now c.args.from c.args.end)) c.in-Times.is c.read_timing.ensures)) }
+pub overflow_add-result-in-Some : goal.overflow_add-result-in-Some
+overflow_add-result-in-Some c = record { fits = omega (arith, settings_end c.args.s.now c.args.from c.args.end _ _ _ _ (omega arith) (omega arith) (subst (ReadAs (text_in c.args.s.now c.args.from c.args.end)) c.in-Some.is c.read_timing.ensures)) }
 
-pub returns-in-Times : goal.returns-in-Times
-returns-in-Times c = timed-at _ _ _ _ _ _ _ _ _ _ (omega arith) (omega arith) (subst (ReadAs (text_in c.args.s.now c.args.from c.args.end)) c.in-Times.is c.read_timing.ensures)
+pub returns-in-Some : goal.returns-in-Some
+returns-in-Some c = timed-at _ _ _ _ _ _ _ _ _ _ (omega arith) (omega arith) (subst (ReadAs (text_in c.args.s.now c.args.from c.args.end)) c.in-Some.is c.read_timing.ensures)
 
-pub returns-in-Malformed : goal.returns-in-Malformed
-returns-in-Malformed c = (subst (ReadAs (text_in c.args.s.now c.args.from c.args.end)) c.in-Malformed.is c.read_timing.ensures, refl)
+pub returns-in-None : goal.returns-in-None
+returns-in-None c = (subst (ReadAs (text_in c.args.s.now c.args.from c.args.end)) c.in-None.is c.read_timing.ensures, refl)

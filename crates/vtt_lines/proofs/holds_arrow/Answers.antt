@@ -1,4 +1,3 @@
-use Prim.Native.Nat.{◌-◌}
 use mathlib.Core.Path.{refl, sym, ◌∙◌}
 use native.Mathlib.Omega.{arith}
 use Rattle.vtt_lines.proofs.Arrows.{arrow-turn, arrow-found, arrow-last}
@@ -11,10 +10,10 @@ pub loop-i-init : goal.loop-i-init
 loop-i-init c = (omega arith, refl)
 
 pub returns-then-is_arrow : goal.returns-then-is_arrow
-returns-then-is_arrow c = sym (sym c.loop-i.invariant.1 ∙ arrow-found _ _ c.loop-i-test.true (sym c.is_arrow.ensures ∙ c.if-is_arrow.true))
+returns-then-is_arrow c = sym (sym c.loop-i.invariant.1 ∙ arrow-found c.args.line.now c.loop-i.i (omega arith) (sym c.is_arrow.ensures ∙ c.if-is_arrow.true))
 
 pub loop-i-preserved : goal.loop-i-preserved
-loop-i-preserved c = (omega arith, sym (arrow-turn _ _ c.loop-i-test.true (sym c.is_arrow.ensures ∙ c.if-is_arrow.false)) ∙ c.loop-i.invariant.1)
+loop-i-preserved c = (omega arith, sym (arrow-turn c.args.line.now c.loop-i.i (omega arith) (sym c.is_arrow.ensures ∙ c.if-is_arrow.false)) ∙ c.loop-i.invariant.1)
 
 pub returns : goal.returns
-returns c = sym (sym c.loop-i.invariant.1 ∙ arrow-last _ _ c.loop-i-test.false)
+returns c = sym (sym c.loop-i.invariant.1 ∙ arrow-last c.args.line.now c.loop-i.i (omega arith))

@@ -1,28 +1,12 @@
-use Prim.Native.Nat.{◌-◌}
 use mathlib.Core.Path.{refl}
 use native.Mathlib.Omega.{arith}
-use native.Mathlib.Numerals.{add-one}
-use lib.ListN.{length-set}
-use lib.Seq.{paste-zero, paste-suc}
-use Rattle.vtt_lines.proofs.Gathering.{bytes-full, bytes-put}
+use Rattle.vtt_lines.proofs.Gathering.{bytes-full, bytes-pasted}
 use Rattle.vtt_lines.proofs.put_bytes.Goals as goal
 
 pub returns-then-buf-end : goal.returns-then-buf-end
 returns-then-buf-end c = (refl, bytes-full _ _ _ c.if-buf-end.true)
 
-pub loop-i-init : goal.loop-i-init
-loop-i-init c = let a = c.args in (omega arith, paste-zero a.buf.now a.n a.bytes.now, refl)
-
-pub loop-i-preserved : goal.loop-i-preserved
-loop-i-preserved c =
-    let a = c.args in
-    let l = c.loop-i in
-    (omega arith, rw (l.invariant.1, add-one) (paste-suc a.buf.now a.n a.bytes.now l.i 0 (omega arith) (omega arith)), simp length-set l.invariant.2)
-
-pub shape_of-buf : goal.shape_of-buf
-shape_of-buf c = c.loop-i.invariant.2
-
 pub returns : goal.returns
 returns c =
-    let l = c.loop-i in
-    (refl, bytes-put _ _ _ _ l.i (omega arith) l.invariant.1 l.invariant.2)
+    let a = c.args in
+    (refl, bytes-pasted _ _ _ _ _ c.copy_from_slice.ensures.after (omega arith) (omega arith))

@@ -5,5 +5,5 @@ use Rattle.vtt_lines.proofs.with_line.Goals as goal
 pub returns-then-n-eq0 : goal.returns-then-n-eq0
 returns-then-n-eq0 c = joint-none c.args.n c.args.bytes c.if-n-eq0.true
 
-pub returns : goal.returns
-returns c = joint-some c.args.n c.args.bytes c.if-n-eq0.false
+pub returns-else-n-eq0 : goal.returns-else-n-eq0
+returns-else-n-eq0 c = joint-some c.args.n c.args.bytes c.if-n-eq0.false

@@ -1,6 +1,6 @@
 -- The first line, then no arrow in the header.
 use mathlib.Core.Path.{refl, sym, ap, ◌∙◌}
-use Rattle.verdict.specs.declared.Verdict.TheVariants.{Refused}
+use Rattle.verdict.specs.Verdict.{Refused}
 use Rattle.text.specs.Rules.{webvtt}
 use Rattle.vtt_lines.specs.declared.Line.{Line}
 use Rattle.vtt_lines.proofs.Places.{line_is}

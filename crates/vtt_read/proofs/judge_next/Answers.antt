@@ -1,7 +1,7 @@
 -- By what is found.
 use Prim.Native.Nat.{◌<◌}
 use mathlib.Core.Path.{sym, ap, ◌∙◌, subst, subst⁻¹}
-use Rattle.verdict.specs.declared.Verdict.TheVariants.{Refused}
+use Rattle.verdict.specs.Verdict.{Refused}
 use Rattle.vtt_blocks.specs.Found.{FoundIs}
 use Rattle.vtt_read.specs.declared.State.{State}
 use Rattle.vtt_read.specs.Steps.{Stands, Rows}

@@ -1,4 +1,3 @@
-use Prim.Native.Nat.{◌-◌}
 use mathlib.Core.Path.{refl, sym, ◌∙◌, subst⁻¹}
 use native.Mathlib.Omega.{arith}
 use Rattle.rows.specs.declared.Row.{Row}
@@ -18,12 +17,6 @@ write_row-size-requires c =
     let p = c.requires in
     let i = c.loop-k.invariant in
     (subst⁻¹ (λ (x : Row). RowAt c.args.s.now x c.loop-k.k) c.row_at-row.ensures (p.0.rows c.loop-k.k c.loop-k-test.true), i.1, i.2, ready_on _ _ _ _ _ i.3 i.4 p.3)
-
-pub overflow_add-k : goal.overflow_add-k
-overflow_add-k c = record { fits = omega (arith, c.loop-k-test.true, (c.requires.0.rows c.loop-k.k c.loop-k-test.true).few) }
-
-pub loop-k-smaller : goal.loop-k-smaller
-loop-k-smaller c = omega (arith, c.loop-k-test.true)
 
 pub loop-k-preserved : goal.loop-k-preserved
 loop-k-preserved c =

@@ -1,5 +1,5 @@
 -- Row by row.
-use Prim.Native.Nat.{◌-◌, ◌≤◌}
+use Prim.Native.Nat.{◌≤◌}
 use mathlib.Core.Path.{◌≡◌}
 use lib.ListN.{length}
 use Rattle.base.specs.Over.{over}
@@ -10,6 +10,3 @@ use Rattle.vtt_read.proofs.write_rows.Given as goal
 abbrev pub invariant-loop-k : goal.invariant-loop-k
 invariant-loop-k l = (l.k ≤ l.n) × (l.size ≡ length (pool_to (list_of l.s) l.k)) × (length l.buf ≡ 4096) × (length l.records ≡ length l.initial.records) × (length l.pool ≡ length l.initial.pool)
     × (l.records ≡ over (records_to 1000 (list_of l.s) l.k) l.initial.records) × (l.pool ≡ over (pool_to (list_of l.s) l.k) l.initial.pool)
-
-abbrev pub decreases-loop-k : goal.decreases-loop-k
-decreases-loop-k l = l.n - l.k

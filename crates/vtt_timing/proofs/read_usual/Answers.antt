@@ -16,4 +16,4 @@ pass_run-from-requires c = (c.is_usual.ensures c.if-not-is_usual.false).long
 pub returns : goal.returns
 returns c =
     usual-times _ (c.is_usual.ensures c.if-not-is_usual.false) _ _ _ _
-    (sym c.in-Ms.is ∙ c.read_timestamp.ensures) (sym c.in-Ms-read_timestamp.is ∙ c.read_timestamp-2.ensures) c.pass_run-from.ensures.0 c.trim_end-to.ensures
+    (sym c.in_ok-start.was ∙ c.read_timestamp.ensures) (sym c.in_ok-end.was ∙ c.read_timestamp-2.ensures) c.pass_run-from.ensures.0 c.trim_end-to.ensures

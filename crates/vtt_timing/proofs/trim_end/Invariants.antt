@@ -4,6 +4,3 @@ use Rattle.vtt_timing.proofs.trim_end.Given as goal
 
 abbrev pub invariant-loop-to : goal.invariant-loop-to
 invariant-loop-to l = Trimming l.s l.from l.to
-
-abbrev pub decreases-loop-to : goal.decreases-loop-to
-decreases-loop-to l = l.to

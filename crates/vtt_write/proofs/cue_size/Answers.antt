@@ -12,8 +12,8 @@ returns-then-i-eq0 c =
     let z = c.line_size-payload.ensures in
     (cue-first _ _ _ _ _ _ _ (x.0 ∙ ap line_size c.identifier_length.ensures.0) (y.0 ∙ ap line_size c.settings_length.ensures.0) (z.0 ∙ ap line_size c.payload_length.ensures.0) c.if-i-eq0.true, omega arith)
 
-pub returns : goal.returns
-returns c =
+pub returns-else-i-eq0 : goal.returns-else-i-eq0
+returns-else-i-eq0 c =
     let x = c.line_size-identifier.ensures in
     let y = c.line_size-settings.ensures in
     let z = c.line_size-payload.ensures in

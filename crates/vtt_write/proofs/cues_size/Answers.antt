@@ -1,4 +1,3 @@
-use Prim.Native.Nat.{◌-◌}
 use mathlib.Core.Path.{◌≡◌, ap, ◌∙◌}
 use native.Mathlib.Omega.{arith}
 use Rattle.records.specs.Records.{count}
@@ -14,12 +13,6 @@ cue_size-size-requires c = omega (arith, c.loop-i-test.true)
 
 pub overflow_add-size : goal.overflow_add-size
 overflow_add-size c = record { fits = omega (arith, c.loop-i.invariant.2, c.loop-i.invariant.0, c.loop-i-test.true, whole-count c.args.records.now, c.requires, c.cue_size-size.ensures.1) }
-
-pub overflow_add-i : goal.overflow_add-i
-overflow_add-i c = record { fits = omega (arith, c.loop-i-test.true, whole-count c.args.records.now, c.requires) }
-
-pub loop-i-smaller : goal.loop-i-smaller
-loop-i-smaller c = omega (arith, c.loop-i-test.true)
 
 pub loop-i-preserved : goal.loop-i-preserved
 loop-i-preserved c =

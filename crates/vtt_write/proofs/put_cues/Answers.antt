@@ -1,4 +1,4 @@
-use Prim.Native.Nat.{ℕ, ◌-◌, ◌<◌}
+use Prim.Native.Nat.{ℕ, ◌<◌}
 use mathlib.Core.Path.{◌≡◌, refl, ap, ◌∙◌}
 use native.Mathlib.Omega.{arith}
 use Rattle.base.specs.Over.{wrote}
@@ -15,12 +15,6 @@ put_next-place-requires c =
     let i = c.loop-i.invariant in
     let h : c.loop-i.i < count c.args.records.now = omega (arith, c.loop-i-test.true, whole-count c.args.records.now) in
     (c.requires.0, h, omega (arith, i.1, i.2, c.requires.1, size-within c.args.records.now c.loop-i.i (count c.args.records.now) h))
-
-pub overflow_add-i : goal.overflow_add-i
-overflow_add-i c = record { fits = omega (arith, c.loop-i-test.true, whole-count c.args.records.now, c.requires.0.few) }
-
-pub loop-i-smaller : goal.loop-i-smaller
-loop-i-smaller c = omega (arith, c.loop-i-test.true)
 
 pub loop-i-preserved : goal.loop-i-preserved
 loop-i-preserved c =

@@ -1,5 +1,4 @@
 -- The first, or one behind a blank line.
-use mathlib.Core.Path.{◌∙◌}
 use native.Mathlib.Omega.{arith}
 use lib.ListN.{length-set}
 use Rattle.vtt_write.proofs.Laws.{first-written, next-written, gap-later}
@@ -11,11 +10,8 @@ returns-then-i-eq0 c = first-written _ _ _ _ _ _ _ c.if-i-eq0.true c.put_pooled.
 pub bounds-out-at : goal.bounds-out-at
 bounds-out-at c = omega (arith, gap-later _ c.if-i-eq0.false)
 
-pub put_pooled-requires-2 : goal.put_pooled-requires-2
-put_pooled-requires-2 c = (c.requires.0, c.requires.1, simp length-set (omega (arith, c.requires.2, gap-later _ c.if-i-eq0.false)))
+pub put_pooled-requires-else-i-eq0 : goal.put_pooled-requires-else-i-eq0
+put_pooled-requires-else-i-eq0 c = (c.requires.0, c.requires.1, simp length-set (omega (arith, c.requires.2, gap-later _ c.if-i-eq0.false)))
 
-pub shape_of-out : goal.shape_of-out
-shape_of-out c = c.put_pooled-2.auto.out ∙ length-set c.args.out.now c.args.at 10
-
-pub returns : goal.returns
-returns c = next-written c.args.out.now _ _ c.args.at _ _ _ c.if-i-eq0.false c.put_pooled-2.ensures.0 (omega (arith, c.requires.2, gap-later _ c.if-i-eq0.false)) c.put_pooled-2.ensures.1
+pub returns-else-i-eq0 : goal.returns-else-i-eq0
+returns-else-i-eq0 c = next-written c.args.out.now _ _ c.args.at _ _ _ c.if-i-eq0.false c.put_pooled-else-i-eq0.ensures.0 (omega (arith, c.requires.2, gap-later _ c.if-i-eq0.false)) c.put_pooled-else-i-eq0.ensures.1

@@ -1,3 +1,4 @@
+use Rattle.base.proofs.Results.{passed_on}
 use Rattle.wvtt.specs.Sample.{in_cue, end_cue, judge_cue}
 use Rattle.boxes.proofs.Judging.{judged-box, judged-refused, judged-stop}
 use Rattle.boxes.proofs.Laws.{step-box, not-box}
@@ -6,7 +7,6 @@ use Rattle.boxes.specs.Boxes.{step_at, among}
 use native.Mathlib.Omega.{arith}
 use mathlib.Core.List.{[]}
 use mathlib.Core.Path.{◌≡◌, refl, sym, ◌∙◌}
-use Prim.Native.Nat.{◌-◌}
 use Rattle.wvtt.proofs.judge_cue.Goals as goal
 
 pub loop-kind-init : goal.loop-kind-init
@@ -19,16 +19,16 @@ returns-in_default c = let i = c.loop-kind.invariant in
     ∙ rw i.1.of_payload (judged-stop (in_cue _) (end_cue _) _ _ _ i.0 _ (sym c.step_at-t.ensures) (not-box c.step_at-t.result c.in_default.not-Box))
     ∙ i.2
 
-pub judge_part-v-requires : goal.judge_part-v-requires
-judge_part-v-requires c =
+pub judge_part-requires : goal.judge_part-requires
+judge_part-requires c =
     let got : step_at c.args.s.now c.loop-kind.at c.args.end ≡ Box c.in-Box.kind c.in-Box.body c.in-Box.next = sym c.step_at-t.ensures ∙ c.in-Box.is in
     let w = step-box _ _ _ _ _ _ (got) in omega arith
 
-pub returns-in_default-v : goal.returns-in_default-v
-returns-in_default-v c =
+pub returns-in_err-judge_part : goal.returns-in_err-judge_part
+returns-in_err-judge_part c =
     let got : step_at c.args.s.now c.loop-kind.at c.args.end ≡ Box c.in-Box.kind c.in-Box.body c.in-Box.next = sym c.step_at-t.ensures ∙ c.in-Box.is in
     let i = c.loop-kind.invariant in
-    judged-refused (in_cue _) (end_cue _) _ _ _ i.0 _ _ _ _ _ (got) (c.judge_part-v.ensures i.0 i.1) c.in_default-v.is ∙ i.2
+    passed_on _ _ c.from_residual.ensures ∙ sym c.in_err-judge_part.was ∙ judged-refused (in_cue _) (end_cue _) _ _ _ i.0 _ _ _ _ _ (got) (c.judge_part.ensures i.0 i.1) c.in_err-judge_part.was ∙ i.2
 
 pub loop-kind-smaller : goal.loop-kind-smaller
 loop-kind-smaller c =
@@ -39,4 +39,4 @@ pub loop-kind-preserved : goal.loop-kind-preserved
 loop-kind-preserved c =
     let got : step_at c.args.s.now c.loop-kind.at c.args.end ≡ Box c.in-Box.kind c.in-Box.body c.in-Box.next = sym c.step_at-t.ensures ∙ c.in-Box.is in
     let i = c.loop-kind.invariant in
-    (_, c.with_kind-seen.ensures i.0 i.1, judged-box (in_cue _) (end_cue _) _ _ _ i.0 _ _ _ (got) (sym (c.judge_part-v.ensures i.0 i.1) ∙ c.in-Fine.is) ∙ i.2)
+    (_, c.with_kind-seen.ensures i.0 i.1, judged-box (in_cue _) (end_cue _) _ _ _ i.0 _ _ _ (got) (sym (c.judge_part.ensures i.0 i.1) ∙ c.in_ok-judge_part.was) ∙ i.2)

@@ -1,22 +1,25 @@
-use Rattle.wvtt_cues.proofs.Laws.{kept-start, kept-box, kept-stop}
+use Rattle.wvtt_cues.proofs.Laws.{kept-start, kept-box, kept-refused, kept-whole}
 use Rattle.wvtt_cues.specs.Cues.{nowhere}
 use Rattle.boxes.proofs.Laws.{step-box, not-box}
 use Rattle.boxes.specs.declared.Step.TheVariants.{Box}
 use Rattle.boxes.specs.Boxes.{step_at}
 use native.Mathlib.Omega.{arith}
 use mathlib.Core.Path.{◌≡◌, sym, ◌∙◌}
-use Prim.Native.Nat.{◌-◌}
+use Rattle.base.proofs.Results.{passed_on}
 use Rattle.wvtt_cues.proofs.read_parts.Goals as goal
 
 pub loop-kind-init : goal.loop-kind-init
 unfolding nowhere
 loop-kind-init c = kept-start _ _ _
 
-pub end_parts-requires : goal.end_parts-requires
-end_parts-requires c = c.loop-kind.invariant.inside
+pub name_parts-requires : goal.name_parts-requires
+name_parts-requires c = c.loop-kind.invariant.inside
+
+pub returns-in_err-stopped_by : goal.returns-in_err-stopped_by
+returns-in_err-stopped_by c = passed_on _ _ c.from_residual.ensures ∙ kept-refused _ _ _ _ _ _ _ (sym c.step_at-t.ensures) (not-box c.step_at-t.result c.in_default.not-Box) c.loop-kind.invariant (sym c.stopped_by.ensures ∙ c.in_err-stopped_by.was)
 
 pub returns-in_default : goal.returns-in_default
-returns-in_default c = c.end_parts.ensures ∙ kept-stop _ _ _ _ _ _ (sym c.step_at-t.ensures) (not-box c.step_at-t.result c.in_default.not-Box) c.loop-kind.invariant
+returns-in_default c = kept-whole _ _ _ _ _ _ _ (sym c.step_at-t.ensures) (not-box c.step_at-t.result c.in_default.not-Box) c.loop-kind.invariant (sym c.stopped_by.ensures ∙ c.in_ok-stopped_by.was) c.name_parts.ensures
 
 pub loop-kind-smaller : goal.loop-kind-smaller
 loop-kind-smaller c =

@@ -1,5 +1,5 @@
 -- `wvtt_entry::end_entry` meets its contract: a refused header comes before 4.
 use Rattle.wvtt_entry.proofs.end_entry.Goals as goal
 
-pub returns : goal.returns
-returns c = simp (← c.stopped_by-v.ensures, c.in-Fine.is, c.if-configured.false, c.refused.ensures)
+pub returns-else-configured : goal.returns-else-configured
+returns-else-configured c = simp (← c.stopped_by.ensures, c.in_ok-stopped_by.was, c.if-configured.false, c.refused.ensures)

@@ -4,7 +4,6 @@ use Rattle.boxes.specs.Boxes.{step_at}
 use Rattle.boxes.specs.declared.Step.TheVariants.{Box}
 use lib.ListN.{length}
 use mathlib.Core.Path.{◌≡◌, refl, sym, ◌∙◌}
-use Prim.Native.Nat.{◌-◌}
 use native.Mathlib.Omega.{arith}
 use Rattle.wvtt_entry.proofs.find_part.Goals as goal
 

@@ -1,3 +1,4 @@
+use Rattle.base.proofs.Results.{passed_on}
 use Rattle.wvtt_entry.specs.Entry.{in_entry, end_entry}
 use Rattle.boxes.proofs.Judging.{judged-box, judged-refused, judged-stop}
 use Rattle.boxes.proofs.Laws.{step-box, not-box}
@@ -7,7 +8,6 @@ use lib.ListN.{length}
 use native.Mathlib.Omega.{arith}
 use mathlib.Core.List.{[], ◌∷◌}
 use mathlib.Core.Path.{◌≡◌, refl, sym, ◌∙◌}
-use Prim.Native.Nat.{◌-◌}
 use Rattle.wvtt_entry.proofs.judge_boxes.Goals as goal
 
 pub loop-kind-init : goal.loop-kind-init
@@ -20,16 +20,16 @@ returns-in_default c = let i = c.loop-kind.invariant in
     ∙ rw i.1 (judged-stop (in_entry _) end_entry _ _ _ i.0 _ (sym c.step_at-t.ensures) (not-box c.step_at-t.result c.in_default.not-Box))
     ∙ i.3
 
-pub judge_box-v-requires : goal.judge_box-v-requires
-judge_box-v-requires c =
+pub judge_box-requires : goal.judge_box-requires
+judge_box-requires c =
     let got : step_at c.args.e.now c.loop-kind.at (length c.args.e.now) ≡ Box c.in-Box.kind c.in-Box.body c.in-Box.next = sym c.step_at-t.ensures ∙ c.in-Box.is in
     let w = step-box _ _ _ _ _ _ (got) in omega arith
 
-pub returns-in_default-v : goal.returns-in_default-v
-returns-in_default-v c =
+pub returns-in_err-judge_box : goal.returns-in_err-judge_box
+returns-in_err-judge_box c =
     let got : step_at c.args.e.now c.loop-kind.at (length c.args.e.now) ≡ Box c.in-Box.kind c.in-Box.body c.in-Box.next = sym c.step_at-t.ensures ∙ c.in-Box.is in
     let i = c.loop-kind.invariant in
-    judged-refused (in_entry _) end_entry _ _ _ i.0 _ _ _ _ _ (got) (c.judge_box-v.ensures i.0 i.1 i.2) c.in_default-v.is ∙ i.3
+    passed_on _ _ c.from_residual.ensures ∙ sym c.in_err-judge_box.was ∙ judged-refused (in_entry _) end_entry _ _ _ i.0 _ _ _ _ _ (got) (c.judge_box.ensures i.0 i.1 i.2) c.in_err-judge_box.was ∙ i.3
 
 pub loop-kind-smaller : goal.loop-kind-smaller
 loop-kind-smaller c =
@@ -44,5 +44,5 @@ loop-kind-preserved c =
       c.in-Box.kind ∷ i.0,
       rw (← i.1) c.mark_kind-configured.ensures,
       rw (← i.2) c.mark_kind-labelled.ensures,
-      judged-box (in_entry _) end_entry _ _ _ i.0 _ _ _ (got) (sym (c.judge_box-v.ensures i.0 i.1 i.2) ∙ c.in-Fine.is) ∙ i.3,
+      judged-box (in_entry _) end_entry _ _ _ i.0 _ _ _ (got) (sym (c.judge_box.ensures i.0 i.1 i.2) ∙ c.in_ok-judge_box.was) ∙ i.3,
     )

@@ -4,5 +4,5 @@ use mathlib.Core.Path.{sym}
 use native.Mathlib.Omega.{arith}
 use Rattle.wvtt_write.proofs.any_size.Goals as goal
 
-pub returns : goal.returns
-returns c = (sym (any-size _ c.if-n-eq0.false), omega arith)
+pub returns-else-n-eq0 : goal.returns-else-n-eq0
+returns-else-n-eq0 c = (sym (any-size _ c.if-n-eq0.false), omega arith)

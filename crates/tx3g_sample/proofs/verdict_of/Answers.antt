@@ -1,8 +1,0 @@
--- `tx3g_sample::verdict_of` meets its contract.
-use Rattle.tx3g_sample.proofs.verdict_of.Goals as goal
-
-pub returns-in-BadEntry : goal.returns-in-BadEntry
-returns-in-BadEntry c = rw c.in-BadEntry.is
-
-pub returns-in-BadSample : goal.returns-in-BadSample
-returns-in-BadSample c = rw c.in-BadSample.is
