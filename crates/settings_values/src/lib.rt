@@ -279,10 +279,12 @@ fn parse_position(s: &[u8]) -> Option<Parsed>
 fn space_of(b: u8) -> u8
     ensures { eqb result 0 ≡ named b }
 {
-    match b {
-        b' ' | b'\t' | b'\n' | 0x0C | b'\r' => 1,
-        _ => 0,
-    }
+    // A `match` or `||` is one test of a mask, which the compiler takes for no wide step.
+    u8::from(b == b' ')
+        | u8::from(b == b'\t')
+        | u8::from(b == b'\n')
+        | u8::from(b == 0x0C)
+        | u8::from(b == b'\r')
 }
 
 // Whether each byte may stand in a region's name. It does not end early, so that the compiler takes wide steps.
