@@ -107,6 +107,20 @@ fn same_texts(samples: &[u8], x: Row, y: Row) -> bool
         && same_part(samples, x.payload, y.payload)
 }
 
+// The latest of the first n rows that has an ID, or n. Inlined, the loop would read its pointer from the stack at each row.
+#[inline(never)]
+fn latest_row(tab: &[usize], n: usize, id: usize) -> usize
+    requires { n * 9 ≤ length tab.now }
+    ensures { (result ≤ n) × (result < n → (row_at tab.now result).id ≡ id) × (n ≤ result → Missing tab.now 0 n id) }
+{
+    for j in (0..n).rev() {
+        if tab[j * 9] == id {
+            return j;
+        }
+    }
+    n
+}
+
 // The row of an ID, if it is known. It is looked for at k first, the place after the previous cue's, and then from the latest rows back.
 pub fn find_id(tab: &[usize], n: usize, k: usize, id: usize) -> Option<usize>
     requires { n * 9 ≤ length tab.now }
@@ -115,12 +129,8 @@ pub fn find_id(tab: &[usize], n: usize, k: usize, id: usize) -> Option<usize>
     if k < n && tab[k * 9] == id {
         return Some(k);
     }
-    for j in (0..n).rev() {
-        if tab[j * 9] == id {
-            return Some(j);
-        }
-    }
-    None
+    let j = latest_row(tab, n, id);
+    if j < n { Some(j) } else { None }
 }
 
 // Whether a cue y whose ID stands in row j, that is x, goes on there; or the number of what is wrong: twice in the sample, back after a gap, other texts, out of order.

@@ -1,16 +1,17 @@
 -- Bytes that are written, one part behind the other.
-use Prim.Native.Nat.{ℕ, ◌+◌, ◌-◌, ◌≤◌}
-use mathlib.Core.Path.{◌≡◌, refl, sym, subst}
+use Prim.Native.Nat.{ℕ, ◌+◌, ◌≤◌}
+use mathlib.Core.Path.{◌≡◌, refl, sym, ap, ◌∙◌, subst}
 use mathlib.Core.Bool.{Bool, true, false, not}
 use mathlib.Core.List.{List, [], ◌∷◌, ◌++◌}
 use native.Mathlib.Omega.{arith}
 use native.Mathlib.Nat.{add-zero}
 use lib.ListN.{length, length-append}
-use lib.Seq.{take_all}
-use Rattle.boxes.specs.Boxes.{part}
 use borrow.Author.Tests.{ne_eqb}
+use borrow.Rule.Slice.PartMut.{put_mid}
+use Rattle.std.proofs.lemmas.Slice.{put_mid-paste}
+use Rattle.std.proofs.lemmas.List.{take_all}
 use Rattle.base.specs.Over.{wrote}
-use Rattle.base.proofs.Over.{wrote-nil, in_two}
+use Rattle.base.proofs.Over.{wrote-nil, in_two, paste-wrote}
 use Rattle.code_points.specs.CodePoints.{encode}
 use Rattle.tx3g_payload.specs.Payload.{escape}
 use Rattle.tx3g_payload_write.specs.Left.{Left, Gone, Stays}
@@ -35,10 +36,9 @@ wrote-both at p r j k old mid new a b l g h =
 pub wrote-most : (at r j k : ℕ) (old new w : List ℕ) → j ≤ k → Wrote at r j old new w → Wrote at r k old new w
 wrote-most at r j k old new w l h = (h.0, omega (arith, l, h.1), h.2)
 
--- all bytes, as a part
-pub whole-part : (s : List ℕ) → part s 0 (0 + length s) ≡ s
-unfolding part
-whole-part s = take_all (0 + length s - 0) s (omega arith)
+-- a copy of all bytes into a part of a slice
+pub stored : (d v ys : List ℕ) (at n k : ℕ) → ys ≡ v → k ≡ n → length v ≡ n → put_mid at k d ys ≡ wrote d at v
+stored d v ys at n k e h l = put_mid-paste at k d ys v n e (sym h) (sym l) ∙ paste-wrote d at v n (omega arith) ∙ ap (wrote d at) (take_all n v (omega arith))
 
 -- an escape, by its character
 pub escape-amp : (c : ℕ) → c ≡ 0x26 → escape c ≡ 0x26 ∷ 0x61 ∷ 0x6D ∷ 0x70 ∷ 0x3B ∷ []

@@ -200,13 +200,13 @@ fn put_character(out: &mut [u8], at: usize, c: u32) -> usize
     at + 4
 }
 
-// These bytes.
-fn put_bytes(out: &mut [u8], at: usize, bytes: &[u8]) -> usize
+// These bytes. Their number is known where it is compiled, so that they are stored with no call.
+fn put_bytes<const N: usize>(out: &mut [u8], at: usize, bytes: &[u8; N]) -> usize
     requires { at + length bytes.now ≤ length out.old }
     ensures { (result ≡ at + length bytes.now) × (out.new ≡ wrote out.old at bytes.now) }
 {
-    copy_run(&mut *out, at, bytes, 0, bytes.len());
-    at + bytes.len()
+    out[at..at + N].copy_from_slice(bytes);
+    at + N
 }
 
 // A character, escaped.
@@ -231,7 +231,7 @@ fn has_flag(d: u32, face: u32) -> bool
 }
 
 // A tag, if it is wanted.
-fn put_tag(out: &mut [u8], at: usize, wanted: bool, tag: &[u8]) -> usize
+fn put_tag<const N: usize>(out: &mut [u8], at: usize, wanted: bool, tag: &[u8; N]) -> usize
     requires { at + length tag.now ≤ length out.old }
     ensures { (result ≡ at + length (given wanted tag.now)) × (result ≤ at + length tag.now) × (out.new ≡ wrote out.old at (given wanted tag.now)) }
 {

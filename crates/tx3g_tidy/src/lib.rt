@@ -221,6 +221,16 @@ fn plain_end(text: &[u8], from: usize, end: usize) -> usize
     end
 }
 
+// Copies n bytes. Where escapes stand side by side there are none, which needs no call.
+fn put_run(out: &mut [u8], at: usize, text: &[u8], from: usize, n: usize)
+    requires { (at + n ≤ length out.old) × (from + n ≤ length text.now) }
+    ensures { out.new ≡ wrote out.old at (part text.now from (from + n)) }
+{
+    if n > 0 {
+        copy_run(&mut *out, at, text, from, n);
+    }
+}
+
 // The text from `from` to `end`, escaped. Gives the place behind it.
 fn put_shown(out: &mut [u8], at: usize, text: &[u8], from: usize, end: usize) -> usize
     requires { (from ≤ end) × (end ≤ length text.now) × (at + length (joined shown (part text.now from end)) + 12 ≤ length out.old) }
@@ -230,7 +240,7 @@ fn put_shown(out: &mut [u8], at: usize, text: &[u8], from: usize, end: usize) ->
     let mut i = from;
     while i < end {
         let next = plain_end(text, i, end);
-        copy_run(&mut *out, to, text, i, next - i);
+        put_run(&mut *out, to, text, i, next - i);
         to += next - i;
         if next == end {
             return to;

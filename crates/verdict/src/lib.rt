@@ -10,7 +10,7 @@ use viable::Judged;
 // The number is what C is given and theorems speak of (`refuse`, `InTable` of demands); code says a `Reason`.
 // Why and where: a number of document 01's table, a place, and document 02's second place: the offset of the first bad byte in a bad text (6), 0 beside every other number.
 #[repr(C)]
-#[derive(Clone, Copy, Default)]
+#[derive(Clone, Copy)]
 pub struct Refusal {
     pub number: u32,
     pub place: usize,
@@ -112,6 +112,15 @@ pub fn text_at(place: usize, j: Judged) -> Verdict
     match j {
         Ok(()) => Ok(()),
         Err(offset) => Err(bad_text_at(place, offset)),
+    }
+}
+
+// Number 0, where nothing is refused.
+impl Default for Refusal {
+    ghost is_default = { λ why. why ≡ fault 0 0 };
+
+    fn default() -> Self {
+        fault_at(0, 0)
     }
 }
 

@@ -4,12 +4,10 @@ use mathlib.Core.Path.{◌≡◌, refl, sym, ap, ◌∙◌, subst}
 use mathlib.Core.Bool.{true, false}
 use mathlib.Core.List.{List, [], ◌∷◌, ◌++◌, append_assoc, append-nil}
 use native.Mathlib.Omega.{arith}
-use borrow.Rule.Slice.PartMut.{put_mid}
-use Rattle.std.proofs.lemmas.Slice.{put_mid-paste}
 use lib.ListN.{length, take, drop, set, length-append, length-set}
-use lib.Seq.{take-length}
+use lib.Seq.{paste, take-length}
 use Rattle.base.specs.Over.{over, wrote}
-use Rattle.base.proofs.Over.{over-nil, over-wrote, wrote-nil, sets-wrote, paste-wrote, length-wrote}
+use Rattle.base.proofs.Over.{over-nil, over-wrote, wrote-nil, sets-wrote, paste-wrote}
 use Rattle.utf8.specs.Strings.{LF}
 use Rattle.vtt_lines.specs.Lines.{Line, lines_of, joined, filled}
 use Rattle.vtt_lines.specs.Cursor.{found_at, begins_filled, joint, WrittenTo, GatheredTo}
@@ -43,10 +41,10 @@ module _ (d : List ℕ) (n : ℕ) (v : List ℕ) where
   pub bytes-full : length d < n + length v → WrittenTo d d n v
   bytes-full h = record { kept = refl; written = λ k. absurd (omega arith) }
 
-  pub bytes-pasted : (k : ℕ) (ys : List ℕ) → ys ≡ v → k ≡ length v → n + length v ≤ length d → WrittenTo d (put_mid n k d ys) n v
-  bytes-pasted k ys e q h =
-      let p : put_mid n k d ys ≡ wrote d n v = put_mid-paste n k d ys v (length v) e (sym q) refl ∙ paste-wrote d n v (length v) (omega arith) ∙ ap (wrote d n) (take-length v) in
-      record { kept = ap length p ∙ length-wrote d n v (omega arith); written = λ _. p }
+  pub bytes-put : (after : List ℕ) (i : ℕ) → i ≡ length v → after ≡ paste d n v i → length after ≡ length d → WrittenTo d after n v
+  bytes-put after i e p l =
+      let q : paste d n v i ≡ wrote d n v = ap (paste d n v) e ∙ paste-wrote d n v (length v) (omega arith) ∙ ap (wrote d n) (take-length v) in
+      record { kept = l; written = λ _. p ∙ q }
 
 -- ---- line after line
 

@@ -320,7 +320,9 @@ fn put_bytes(buf: &mut [u8], n: usize, bytes: &[u8]) -> usize
     if buf.len() < end {
         return end;
     }
-    buf[n..end].copy_from_slice(bytes);
+    for i in 0..bytes.len() {
+        buf[n + i] = bytes[i];
+    }
     end
 }
 

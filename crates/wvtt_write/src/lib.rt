@@ -12,12 +12,40 @@ ghost use Rattle.wvtt_write.specs.Written.{if_any, text_items, cue_bytes, pooled
 use fields::put32;
 use wvtt::{IDEN, PAYL, STTG, VSID, VTTC, VTTE};
 
-// Copies n bytes of `src` from `from` on to `at` in `out`.
+// Copies n bytes, one by one.
+fn copy_bytes(out: &mut [u8], at: usize, src: &[u8], from: usize, n: usize)
+    requires { (at + n ≤ length out.old) × (from + n ≤ length src.now) }
+    ensures { out.new ≡ wrote out.old at (part src.now from (from + n)) }
+{
+    for i in 0..n {
+        out[at + i] = src[from + i];
+    }
+}
+
+// Copies sixteen bytes. All are read before the first is stored, so that it compiles to one load and one store.
+fn copy16(out: &mut [u8], at: usize, src: &[u8], from: usize)
+    requires { (at + 16 ≤ length out.old) × (from + 16 ≤ length src.now) }
+    ensures { out.new ≡ wrote out.old at (part src.now from (from + 16)) }
+{
+    let mut block = [0u8; 16];
+    block.copy_from_slice(&src[from..from + 16]);
+    out[at..at + 16].copy_from_slice(&block);
+}
+
+// Copies n bytes of `src` from `from` on to `at` in `out`, sixteen at a time. The last sixteen may overlap the ones before.
 pub fn copy_run(out: &mut [u8], at: usize, src: &[u8], from: usize, n: usize)
     requires { (at + n ≤ length out.old) × (from + n ≤ length src.now) }
     ensures { out.new ≡ wrote out.old at (part src.now from (from + n)) }
 {
-    out[at..at + n].copy_from_slice(&src[from..from + n]);
+    if n < 16 {
+        copy_bytes(&mut *out, at, src, from, n);
+        return;
+    }
+    let last = n - 16;
+    for i in (0..last).step_by(16) {
+        copy16(&mut *out, at + i, src, from + i);
+    }
+    copy16(&mut *out, at + last, src, from + last);
 }
 
 // The size and the type of a box.

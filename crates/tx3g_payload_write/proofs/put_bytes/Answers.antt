@@ -1,10 +1,11 @@
 -- A copy of all of them.
-use Prim.Native.Nat.{ℕ}
-use mathlib.Core.Path.{refl, ap, ◌∙◌}
-use mathlib.Core.List.{List}
-use Rattle.base.specs.Over.{wrote}
-use Rattle.tx3g_payload_write.proofs.Stores.{whole-part}
+use native.Mathlib.Omega.{arith}
+use lib.ListN.{length}
+use mathlib.Core.Path.{◌≡◌}
+use Rattle.tx3g_payload_write.proofs.Stores.{stored}
 use Rattle.tx3g_payload_write.proofs.put_bytes.Goals as goal
 
 pub returns : goal.returns
-returns c = (refl, c.copy_run.ensures ∙ ap (λ (x : List ℕ). wrote c.args.out.now c.args.at x) (whole-part c.args.bytes.now))
+returns g c =
+    let l : length c.args.bytes.now ≡ g.row.N = omega arith in
+    (omega (arith, l), stored c.args.out.now c.args.bytes.now _ c.args.at g.row.N _ c.copy_from_slice.ensures.after (omega arith) l)

@@ -12,8 +12,8 @@ plain_end-next-requires c = (c.loop-i.invariant.here, c.requires.1)
 pub overflow_sub-next : goal.overflow_sub-next
 overflow_sub-next c = c.plain_end-next.ensures.goes
 
-pub copy_run-requires : goal.copy_run-requires
-copy_run-requires c =
+pub put_run-requires : goal.put_run-requires
+put_run-requires c =
     let p = c.requires in
     let g = c.loop-i.invariant in
     let w = c.plain_end-next.ensures in
@@ -28,12 +28,12 @@ overflow_add-to c = let p = c.requires in omega (arith, run_room _ _ _ _ _ p.1 p
 pub shape_of-out-then-next-end : goal.shape_of-out-then-next-end
 shape_of-out-then-next-end c =
     let p = c.requires in
-    shown-kept _ _ _ _ _ p.1 p.2 _ _ _ (shown-run _ _ _ _ _ p.1 p.2 _ _ _ c.loop-i.invariant _ c.plain_end-next.ensures _ c.copy_run.ensures)
+    shown-kept _ _ _ _ _ p.1 p.2 _ _ _ (shown-run _ _ _ _ _ p.1 p.2 _ _ _ c.loop-i.invariant _ c.plain_end-next.ensures _ c.put_run.ensures)
 
 pub returns-then-next-end : goal.returns-then-next-end
 returns-then-next-end c =
     let p = c.requires in
-    shown-all _ _ _ _ _ p.1 p.2 _ _ _ (shown-run _ _ _ _ _ p.1 p.2 _ _ _ c.loop-i.invariant _ c.plain_end-next.ensures _ c.copy_run.ensures) (omega arith)
+    shown-all _ _ _ _ _ p.1 p.2 _ _ _ (shown-run _ _ _ _ _ p.1 p.2 _ _ _ c.loop-i.invariant _ c.plain_end-next.ensures _ c.put_run.ensures) (omega arith)
 
 pub bounds-text-next : goal.bounds-text-next
 bounds-text-next c = omega (arith, c.requires.1, c.plain_end-next.ensures.ends, c.if-next-end.false)
@@ -46,7 +46,7 @@ put_escaped-to-requires c =
     let p = c.requires in
     let g = c.loop-i.invariant in
     let w = c.plain_end-next.ensures in
-    let k = shown-kept _ _ _ _ _ p.1 p.2 _ _ _ (shown-run _ _ _ _ _ p.1 p.2 _ _ _ g _ w _ c.copy_run.ensures) in
+    let k = shown-kept _ _ _ _ _ p.1 p.2 _ _ _ (shown-run _ _ _ _ _ p.1 p.2 _ _ _ g _ w _ c.put_run.ensures) in
     (omega (arith, k, run_room _ _ _ _ _ p.1 p.2 _ _ _ g _ w), omega (arith, c.type_inv.text c.plain_end-next.result))
 
 pub overflow_add-i : goal.overflow_add-i
@@ -61,7 +61,7 @@ loop-i-preserved c =
     let w = c.plain_end-next.ensures in
     let h = c.put_escaped-to.ensures in
     let l : c.plain_end-next.result < c.args.end = omega (arith, w.ends, c.if-next-end.false) in
-    shown-byte _ _ _ _ _ p.1 p.2 _ _ _ (shown-run _ _ _ _ _ p.1 p.2 _ _ _ c.loop-i.invariant _ w _ c.copy_run.ensures) l (w.stops l) _ _ h.0 h.2
+    shown-byte _ _ _ _ _ p.1 p.2 _ _ _ (shown-run _ _ _ _ _ p.1 p.2 _ _ _ c.loop-i.invariant _ w _ c.put_run.ensures) l (w.stops l) _ _ h.0 h.2
 
 pub shape_of-out : goal.shape_of-out
 shape_of-out c = let p = c.requires in shown-kept _ _ _ _ _ p.1 p.2 _ _ _ c.loop-i.invariant
