@@ -4,12 +4,18 @@
 ghost use Rattle.std.specs.Prelude.{◌≡◌, min};
 ghost use Rattle.base.specs.Choice.{same_list};
 
-// Whether the bytes are the same.
-#[tactic(auto, using(crate::proofs::Laws::same_lists))]
+// Whether the bytes are the same. It does not end early, so that the compiler takes wide steps.
 pub fn same_bytes(a: &[u8], b: &[u8]) -> bool
     ensures { result ≡ same_list a.now b.now }
 {
-    a == b
+    if a.len() != b.len() {
+        return false;
+    }
+    let mut same = true;
+    for (i, &x) in a.iter().enumerate() {
+        same &= x == b[i];
+    }
+    same
 }
 
 // The smaller of two numbers.

@@ -107,13 +107,15 @@ fn same_texts(samples: &[u8], x: Row, y: Row) -> bool
         && same_part(samples, x.payload, y.payload)
 }
 
-// The latest of the first n rows that has an ID, or n. Inlined, the loop would read its pointer from the stack at each row.
+// The latest of the first n rows that has an ID, or n. Inlined, the loop would read its pointer from the stack at each row; by `rev` it
+// is longer than sixteen bytes, and takes half as long again at every other address on some processors.
 #[inline(never)]
 fn latest_row(tab: &[usize], n: usize, id: usize) -> usize
     requires { n * 9 ≤ length tab.now }
     ensures { (result ≤ n) × (result < n → (row_at tab.now result).id ≡ id) × (n ≤ result → Missing tab.now 0 n id) }
 {
-    for j in (0..n).rev() {
+    for passed in 0..n {
+        let j = n - passed - 1;
         if tab[j * 9] == id {
             return j;
         }

@@ -1,5 +1,5 @@
 -- The order of signed numbers is that of their ranks; the bytes that are -1, 0 or 1; the numbers themselves.
-use Prim.Native.Nat.{ℕ, suc, ◌+◌, ◌-◌, ◌*◌, ◌≤◌, ◌<◌}
+use Prim.Native.Nat.{ℕ, suc, ◌+◌, ◌-◌, ◌≤◌, ◌<◌}
 use mathlib.Core.Path.{◌≡◌, refl, sym, ◌∙◌}
 use mathlib.Core.List.{List}
 use mathlib.Core.Bool.{Bool, true, false}
@@ -65,10 +65,11 @@ module _ (half v : ℕ) (few : half ≤ 32768) where
   unfolding signed
   small_is h = rw (lt-ltb v half h, lt-ltb v 2147483648 (omega arith))
 
-  pub large_is : half ≤ v → v < half + half → to_z w32 v -ℤ to_z w32 (2 * half) ≡ signed half v
+  -- x is twice half, however it is written
+  pub large_is : (x : ℕ) → x ≡ half + half → half ≤ v → v < half + half → to_z w32 v -ℤ to_z w32 x ≡ signed half v
   unfolding signed
-  large_is k h =
-      let top : 2 * half ≡ suc (half + half - 1) = omega arith in
+  large_is x twice k h =
+      let top : x ≡ suc (half + half - 1) = omega arith in
       let e : suc (half + half - 1) - suc v ≡ half + half - 1 - v = omega arith in
       rw
       (top, le-ltb v half k, lt-ltb v 2147483648 (omega arith), lt-ltb (suc (half + half - 1)) 2147483648 (omega arith), lt-ltb v (suc (half + half - 1)) (omega arith), e)
@@ -80,6 +81,12 @@ module _ (half v : ℕ) (few : half ≤ 32768) where
       go : (t : Bool) → SFits w32 (pick t (pos v) (negsuc (half + half - 1 - v)))
       go true = record { sfits = omega arith }
       go false = record { sfits = omega arith }
+
+  pub large_fits : (x : ℕ) → x ≡ half + half → half ≤ v → v < half + half → SFits w32 (to_z w32 v -ℤ to_z w32 x)
+  large_fits x twice k h = rw (large_is x twice k h) (signed-fits h)
+
+  pub large_kept : (x : ℕ) → x ≡ half + half → half ≤ v → v < half + half → to_z w32 (of_z w32 (to_z w32 v -ℤ to_z w32 x)) ≡ signed half v
+  large_kept x twice k h = rw (large_is x twice k h) (to_z-of_z (signed-fits h))
 
   -- a number as it is kept in a field
   pub kept : (z : ℤ) → z ≡ signed half v → v < half + half → to_z w32 (of_z w32 z) ≡ signed half v

@@ -52,6 +52,7 @@ pub fn is_justified(s: &[u8], at: usize) -> bool
 }
 
 // A number in two's complement, `half` of whose values are negative.
+#[tactic(auto, using(crate::proofs::Laws::large_fits, crate::proofs::Laws::large_kept))]
 fn signed(half: u32, v: u32) -> i32
     requires { (half ≤ 32768) × (v < half + half) }
     ensures { result ≡ signed half v }

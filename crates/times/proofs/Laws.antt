@@ -57,6 +57,12 @@ back-ceil scale t h =
     (λ z. let e = eqb-true (t * 1000 % scale) 0 z in let r = back-even scale t h e in (omega (arith, e, r.0), omega (arith, e, r.1)))
     (λ z. let e = eqb-false (t * 1000 % scale) 0 z in let r = back_more scale t h e in (omega (arith, e, r.0), omega (arith, e, r.1)))
 
+-- the same of a quotient rounded up, however its two numbers are written
+pub ceil_is : (scale t n d r : ℕ) → r ≡ n / d + min 1 (n % d) → n ≡ t * 1000 → d ≡ scale → 0 < scale → (r ≡ back scale t) × (r ≤ t * 1000)
+ceil_is scale t n d r e p q h =
+    let k : r ≡ t * 1000 / scale + min 1 (t * 1000 % scale) = rw (← p, ← q) e in
+    rw k (back-ceil scale t h)
+
 pub tick-mono : (scale m n : ℕ) → m ≤ n → tick scale m ≤ tick scale n
 unfolding tick
 tick-mono scale m n h = omega (arith, mul-le-mul_right scale h)

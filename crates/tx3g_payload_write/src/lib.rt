@@ -200,12 +200,13 @@ fn put_character(out: &mut [u8], at: usize, c: u32) -> usize
     at + 4
 }
 
-// These bytes. Their number is known where it is compiled, so that they are stored with no call.
+// These bytes. Their number is known where it is compiled, and they are read before they are stored, so that they are stored at once.
 fn put_bytes<const N: usize>(out: &mut [u8], at: usize, bytes: &[u8; N]) -> usize
     requires { at + length bytes.now ≤ length out.old }
     ensures { (result ≡ at + length bytes.now) × (out.new ≡ wrote out.old at bytes.now) }
 {
-    out[at..at + N].copy_from_slice(bytes);
+    let read = *bytes;
+    out[at..at + N].copy_from_slice(&read);
     at + N
 }
 

@@ -212,6 +212,10 @@ fn plain_end(text: &[u8], from: usize, end: usize) -> usize
     requires { (from ≤ end) × (end ≤ length text.now) }
     ensures { PlainTo text.now from end result }
 {
+    // Where one escaped byte follows another, no eight bytes are looked at.
+    if from < end && escape_mark(text[from]) > 0 {
+        return from;
+    }
     let first = pass_plain(text, from, end);
     for i in first..end {
         if escape_mark(text[i]) > 0 {

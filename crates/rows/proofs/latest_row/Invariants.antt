@@ -1,6 +1,6 @@
-use Prim.Native.Nat.{◌≤◌}
+use Prim.Native.Nat.{◌-◌}
 use Rattle.rows.specs.Table.{Missing}
 use Rattle.rows.proofs.latest_row.Given as goal
 
-abbrev pub invariant-loop-j : goal.invariant-loop-j
-invariant-loop-j l = (l.j ≤ l.n) × Missing l.tab l.j l.n l.id
+abbrev pub invariant-loop-passed : goal.invariant-loop-passed
+invariant-loop-passed l = Missing l.tab (l.n - l.passed) l.n l.id

@@ -1,6 +1,7 @@
 use Prim.Native.Nat.{ℕ, ◌+◌, ◌*◌, min}
 use mathlib.Core.Path.{◌≡◌, sym, ap, ◌∙◌}
 use native.Mathlib.Omega.{arith}
+use Rattle.std.proofs.lemmas.Grind.{common_steps}
 use lib.ListN.{length}
 use Rattle.timestamps.specs.Timestamps.{digit}
 use Rattle.timestamps.proofs.Laws.{counting-start, counting_more, counting-stop, counting-end}
@@ -26,8 +27,9 @@ overflow_add-number c = record { fits = omega (arith, c.loop-i.invariant.small, 
 pub loop-i-preserved : goal.loop-i-preserved
 unfolding digit
 loop-i-preserved c =
+    let w : c.min-number.result ≡ min (c.loop-i.number * 10 + c.number_of.result) c.args.most = grind (arith, common_steps, c.min-number.ensures) in
     counting_more _ _ _ _ _ c.loop-i-test.true (sym c.is_within.ensures ∙ c.if-not-is_within.false)
-    (c.min-number.ensures ∙ ap (λ (x : ℕ). min (c.loop-i.number * 10 + x) c.args.most) c.number_of.ensures.0) c.loop-i.invariant
+    (w ∙ ap (λ (x : ℕ). min (c.loop-i.number * 10 + x) c.args.most) c.number_of.ensures.0) c.loop-i.invariant
 
 pub returns : goal.returns
 returns c =
